@@ -9,7 +9,7 @@ mod parameters;
 mod tasks;
 mod tool;
 
-ghost use Rattle.std.specs.Prelude.{◌≡◌};
+ghost use Rattle.xcp_locked.specs.UnnamedSlave.{IsNamed};
 
 use bench::{Bench, Part};
 use model::Engine;
@@ -36,8 +36,7 @@ fn run<N: Name + Send + Sync, R: Threads + Wait + Print + Sync>(
     alloc: Global,
     unnamed: Unnamed,
 ) -> io::Result<()>
-    requires { (unnamed.name ≡ N.name) × (unnamed.callers ≡ N.parts)
-        × (unnamed.layout ≡ N.layout) × (unnamed.bank ≡ N.bank) }
+    requires { IsNamed unnamed N.name N.parts N.layout N.bank }
 {
     let Opening {
         locked,

@@ -28,7 +28,7 @@ pub fn run_task<N: Name>(rt: &impl Wait, part: &mut Part<N>) {
         }
         // What isn't accepted, as no memory is left, is missing in the number of calls at the end.
         let event = Request::Event(part.number, signals(engine));
-        let _told = locked.submit_into(&mut part.caller, event.asked(), &mut Packet::new());
+        let _told = locked.submit_into(&mut part.caller, event.lent(), &mut Packet::new());
     }
 }
 

@@ -6,7 +6,7 @@ use Rattle.pin_core.specs.declared.events.Event.{Event}
 use Rattle.pin_core.specs.declared.events.Event.TheVariants.{Look, Unpin, Pin, Read, Scan, Reset, Write, Publish}
 use Rattle.pin_core.specs.declared.events.Seen.{Seen}
 use Rattle.pin_core.specs.declared.events.Seen.TheVariants.{Word}
-use Rattle.pin_core.specs.State.{Reader, PinState, newcomer, reader, words_of, published, publication}
+use Rattle.pin_core.specs.State.{Reader, PinState, newcomer, reader, words_of_buffer, published, publication_at}
 use Rattle.pin_core.specs.Effects.{looking, pinning, leaving}
 use Rattle.pin_core.specs.Steps.{Steps, Runs}
 use Rattle.pin_core.specs.StateInvariant.{at_buffer, holders, Lawful}
@@ -17,17 +17,17 @@ use Rattle.pin_core.proofs.StepLaws.{step_keeps, step_adds, adds_keeps}
 
 module _ (W : ℕ) (s t : PinState) (a : Seen) (r b p : ℕ) (law : Lawful W s) (held : (reader s r).held ≡ Some (b, p)) where
   -- no event touches the buffer
-  pub left_alone : (e : Event) → Steps W s e a t → (touched s e ≢ Some b) × (words_of t b ≡ words_of s b)
-  left_alone (Look q) h = ((λ e. none-some b e), ap (λ (v : PinState). words_of v b) h.2)
-  left_alone (Unpin q last) h = ((λ e. none-some b e), ap (λ (v : PinState). words_of v b) h.4)
-  left_alone (Pin q) h = ((λ e. none-some b e), ap (λ (v : PinState). words_of v b) h.2)
-  left_alone (Read q k) h = ((λ e. none-some b e), ap (λ (v : PinState). words_of v b) h.4)
-  left_alone (Scan c) h = ((λ e. none-some b e), ap (λ (v : PinState). words_of v b) h.2)
-  left_alone (Reset c) h = ((λ e. (law.keeps r b p held).unquiet (h.0.1 ∙ e)), ap (λ (v : PinState). words_of v b) h.2)
+  pub left_alone : (e : Event) → Steps W s e a t → (touched s e ≢ Some b) × (words_of_buffer t b ≡ words_of_buffer s b)
+  left_alone (Look q) h = ((λ e. none-some b e), ap (λ (v : PinState). words_of_buffer v b) h.2)
+  left_alone (Unpin q last) h = ((λ e. none-some b e), ap (λ (v : PinState). words_of_buffer v b) h.4)
+  left_alone (Pin q) h = ((λ e. none-some b e), ap (λ (v : PinState). words_of_buffer v b) h.2)
+  left_alone (Read q k) h = ((λ e. none-some b e), ap (λ (v : PinState). words_of_buffer v b) h.4)
+  left_alone (Scan c) h = ((λ e. none-some b e), ap (λ (v : PinState). words_of_buffer v b) h.2)
+  left_alone (Reset c) h = ((λ e. (law.keeps r b p held).unquiet (h.0.1 ∙ e)), ap (λ (v : PinState). words_of_buffer v b) h.2)
   left_alone (Write k x) h =
       let unbuilt = (law.keeps r b p held).unbuilt in
-      (unbuilt, ap (λ (v : PinState). words_of v b) h.3 ∙ get_or-set_other s.words h.0 b (set (words_of s h.0) k x) [] (λ e. unbuilt (h.1.0 ∙ ap (λ (c : ℕ). Some c) (sym e))))
-  left_alone Publish h = ((law.keeps r b p held).unbuilt, ap (λ (v : PinState). words_of v b) h.3)
+      (unbuilt, ap (λ (v : PinState). words_of_buffer v b) h.3 ∙ get_or-set_other s.words h.0 b (set (words_of_buffer s h.0) k x) [] (λ e. unbuilt (h.1.0 ∙ ap (λ (c : ℕ). Some c) (sym e))))
+  left_alone Publish h = ((law.keeps r b p held).unbuilt, ap (λ (v : PinState). words_of_buffer v b) h.3)
 
   -- what another reader's event, or one that leaves the hold, does to the list of readers
   others_hold : (q : ℕ) (x : Reader) → q < length s.readers → (q ≡ r → x.held ≡ Some (b, p)) → (get_or (set s.readers q x) r newcomer).held ≡ Some (b, p)
@@ -50,31 +50,31 @@ module _ (W : ℕ) (s t : PinState) (a : Seen) (r b p : ℕ) (law : Lawful W s) 
 
 -- a Read answers a word of the publication that is held
 read_word : (W : ℕ) (s t : PinState) (a : Seen) (r b p k : ℕ) → Lawful W s → (reader s r).held ≡ Some (b, p) → Steps W s (Read r k) a t
-    → (k < W) × (a ≡ Word (get_or (publication s p) k 0))
+    → (k < W) × (a ≡ Word (get_or (publication_at s p) k 0))
 read_word W s t a r b p k law held h =
     let same : (h.0, h.1) ≡ (b, p) = same_Some (h.0, h.1) (b, p) (sym h.2.1 ∙ held) in
-    (h.2.2, h.3 ∙ ap (λ (l : List ℕ). Word (get_or l k 0)) (ap (λ (z : ℕ × ℕ). words_of s z.0) same ∙ (law.keeps r b p held).words))
+    (h.2.2, h.3 ∙ ap (λ (l : List ℕ). Word (get_or l k 0)) (ap (λ (z : ℕ × ℕ). words_of_buffer s z.0) same ∙ (law.keeps r b p held).words))
 
 -- a held publication has as many words as a buffer
-held_width : (W : ℕ) (s : PinState) (r b p : ℕ) → Lawful W s → (reader s r).held ≡ Some (b, p) → length (publication s p) ≡ W
+held_width : (W : ℕ) (s : PinState) (r b p : ℕ) → Lawful W s → (reader s r).held ≡ Some (b, p) → length (publication_at s p) ≡ W
 held_width W s r b p law held = let k = law.keeps r b p held in ap length (sym k.words) ∙ law.sizes.widths b k.buffer
 
 -- a reader that doesn't unpin in a run holds one publication, which stays as it is, and reads only words of it
 pub reads_one : (W : ℕ) (s t : PinState) (events : List Event) (answers : List Seen) (r b p : ℕ) → Lawful W s → Runs W s events answers t
     → (reader s r).held ≡ Some (b, p) → KeepsHold r events
-    → ((reader t r).held ≡ Some (b, p)) × (publication t p ≡ publication s p) × (length (publication s p) ≡ W) × ReadsOf r (publication s p) events answers
+    → ((reader t r).held ≡ Some (b, p)) × (publication_at t p ≡ publication_at s p) × (length (publication_at s p) ≡ W) × ReadsOf r (publication_at s p) events answers
 reads_one W s t [] answers r b p law h held none =
-    (ap (λ (v : PinState). (reader v r).held) h.1 ∙ held, ap (λ (v : PinState). publication v p) h.1, held_width W s r b p law held, λ i k e. absurd (none-some (Read r k) e))
+    (ap (λ (v : PinState). (reader v r).held) h.1 ∙ held, ap (λ (v : PinState). publication_at v p) h.1, held_width W s r b p law held, λ i k e. absurd (none-some (Read r k) e))
 reads_one W s t (e ∷ es) answers r b p law h held none =
     let u : PinState = h.1 in
     let on : (reader u r).held ≡ Some (b, p) = stays_held W s u h.0 r b p law held e (λ last same. none 0 last (ap (λ (x : Event). Some x) same)) h.4 in
     let below : p < published s = (let q = (law.seen r).held b p held in let m = (law.seen r).most in omega arith) in
-    let same : publication u p ≡ publication s p = adds_keeps s u p (step_adds W s u e h.0 h.4) below in
+    let same : publication_at u p ≡ publication_at s p = adds_keeps s u p (step_adds W s u e h.0 h.4) below in
     let rest = reads_one W u t es h.2 r b p (step_keeps W s u e h.0 law h.4) h.5 on (λ i last. none (suc i) last) in
-    let wide : length (publication s p) ≡ W = held_width W s r b p law held in
+    let wide : length (publication_at s p) ≡ W = held_width W s r b p law held in
     (rest.0, rest.1 ∙ same, wide, reads u rest.3 same wide)
   where
-    reads : (u : PinState) → ReadsOf r (publication u p) es h.2 → publication u p ≡ publication s p → length (publication s p) ≡ W → ReadsOf r (publication s p) (e ∷ es) answers
+    reads : (u : PinState) → ReadsOf r (publication_at u p) es h.2 → publication_at u p ≡ publication_at s p → length (publication_at s p) ≡ W → ReadsOf r (publication_at s p) (e ∷ es) answers
     reads u later same wide zero k is =
         let first = read_word W s h.1 h.0 r b p k law held (subst (λ (x : Event). Steps W s x h.0 h.1) (same_Some e (Read r k) is) h.4) in
         let fits = first.0 in

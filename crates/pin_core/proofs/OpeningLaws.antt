@@ -3,7 +3,7 @@ use Rattle.std.proofs.Common.{◌≡◌, ℕ, zero, suc, ◌+◌, ◌-◌, ◌<�
 use Rattle.std.proofs.lemmas.List.Sums.{sum_by-cons}
 use Rattle.std.proofs.lemmas.Option.{none-some}
 use Rattle.std.proofs.lemmas.Bool.{false≢true}
-use Rattle.pin_core.specs.State.{Reader, PinState, newcomer, reader, words_of, leavings_of, started_of, opening}
+use Rattle.pin_core.specs.State.{Reader, PinState, newcomer, reader, words_of_buffer, leavings_of, started_of, opening}
 use Rattle.pin_core.specs.StateInvariant.{at_buffer, holders, Lawful}
 
 -- a list of equal elements has this element at every place, and behind its end as the default
@@ -32,7 +32,7 @@ module _ (first : List ℕ) where
   abbrev s : PinState
   s = opening first
 
-  widths : (b : ℕ) → b < 8 → length (words_of s b) ≡ length first
+  widths : (b : ℕ) → b < 8 → length (words_of_buffer s b) ≡ length first
   widths zero l = refl
   widths (suc b) l = ap length (within 7 (replicate (length first) 0) [] b (omega arith)) ∙ long (length first) 0
 

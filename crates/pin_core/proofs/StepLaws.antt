@@ -6,7 +6,7 @@ use Rattle.pin_core.specs.declared.events.Event.{Event}
 use Rattle.pin_core.specs.declared.events.Event.TheVariants.{Look, Unpin, Pin, Read, Scan, Reset, Write, Publish}
 use Rattle.pin_core.specs.declared.events.Seen.{Seen}
 use Rattle.pin_core.specs.declared.events.Seen.TheVariants.{Index, Word, Leavings, Done}
-use Rattle.pin_core.specs.State.{Reader, PinState, newcomer, reader, words_of, leavings_of, published, publication}
+use Rattle.pin_core.specs.State.{Reader, PinState, newcomer, reader, words_of_buffer, leavings_of, published, publication_at}
 use Rattle.pin_core.specs.Effects.{looking, pinning, leaving, after_look, after_pin, after_unpin, after_scan, after_reset, after_write, after_publish}
 use Rattle.pin_core.specs.Steps.{IsEnabled, Steps, Runs}
 use Rattle.pin_core.specs.StateInvariant.{Lawful}
@@ -46,7 +46,7 @@ pub enabled_steps : (W : ℕ) (s : PinState) (e : Event) → IsEnabled W s e →
 enabled_steps W s (Look r) h = (Index s.index, after_look s r, (h, refl, refl))
 enabled_steps W s (Unpin r last) h = (Done, after_unpin s r h.0 last, (h.0, h.1, h.2, refl, refl))
 enabled_steps W s (Pin r) h = (Index s.index, after_pin s r, (h, refl, refl))
-enabled_steps W s (Read r k) h = (Word (get_or (words_of s h.0) k 0), s, (h.0, h.1, h.2, refl, refl))
+enabled_steps W s (Read r k) h = (Word (get_or (words_of_buffer s h.0) k 0), s, (h.0, h.1, h.2, refl, refl))
 enabled_steps W s (Scan b) h = (Leavings (leavings_of s b), after_scan s b, (h, refl, refl))
 enabled_steps W s (Reset b) h = (Done, after_reset s b, (h, refl, refl))
 enabled_steps W s (Write k x) h = (Done, after_write s k x h.0, (h.0, h.1, refl, refl))
@@ -63,7 +63,7 @@ pub determined : (W : ℕ) (s t u : PinState) (e : Event) (a b : Seen) → Steps
 determined W s t u (Look r) a b h k = (h.1 ∙ sym k.1, h.2 ∙ sym k.2)
 determined W s t u (Unpin r last) a b h k = (h.3 ∙ sym k.3, h.4 ∙ (ap (λ (c : ℕ). after_unpin s r c last) (same_hold (reader s r).held h.0 k.0 h.1 k.1 h.2.1 k.2.1) ∙ sym k.4))
 determined W s t u (Pin r) a b h k = (h.1 ∙ sym k.1, h.2 ∙ sym k.2)
-determined W s t u (Read r n) a b h k = (h.3 ∙ (ap (λ (c : ℕ). Word (get_or (words_of s c) n 0)) (same_hold (reader s r).held h.0 k.0 h.1 k.1 h.2.1 k.2.1) ∙ sym k.3), h.4 ∙ sym k.4)
+determined W s t u (Read r n) a b h k = (h.3 ∙ (ap (λ (c : ℕ). Word (get_or (words_of_buffer s c) n 0)) (same_hold (reader s r).held h.0 k.0 h.1 k.1 h.2.1 k.2.1) ∙ sym k.3), h.4 ∙ sym k.4)
 determined W s t u (Scan c) a b h k = (h.1 ∙ sym k.1, h.2 ∙ sym k.2)
 determined W s t u (Reset c) a b h k = (h.1 ∙ sym k.1, h.2 ∙ sym k.2)
 determined W s t u (Write n x) a b h k = (h.2 ∙ sym k.2, h.3 ∙ (ap (λ (c : ℕ). after_write s n x c) (same_built s.writer.building h.0 k.0 h.1.0 k.1.0) ∙ sym k.3))
@@ -121,7 +121,7 @@ run_adds W s t (e ∷ es) answers r law h =
     (one.0 ++ rest.0, rest.1 ∙ (ap (λ (l : List (List ℕ)). l ++ rest.0) one.1 ∙ append_assoc s.writer.publications one.0 rest.0), omega arith)
 
 -- a publication that is there stays what it is
-pub adds_keeps : (s t : PinState) (p : ℕ) → Adds s t → p < published s → publication t p ≡ publication s p
+pub adds_keeps : (s t : PinState) (p : ℕ) → Adds s t → p < published s → publication_at t p ≡ publication_at s p
 adds_keeps s t p more below = ap (λ (l : List (List ℕ)). get_or l p []) more.1 ∙ get_or_append_left s.writer.publications more.0 [] p below
 
 -- one event more at the end of a run

@@ -5,7 +5,7 @@ use Rattle.std.proofs.lemmas.Option.{none-some, same_Some, cond_some}
 use Rattle.std.proofs.lemmas.Bool.{eqb-true}
 use mathlib.Core.Logic.{dite}
 use native.Mathlib.Decide.{ℕ_discrete}
-use Rattle.pin_core.specs.State.{PinState, reader, words_of, leavings_of, started_of, published}
+use Rattle.pin_core.specs.State.{PinState, reader, words_of_buffer, leavings_of, started_of, published}
 use Rattle.pin_core.specs.Effects.{after_scan, after_reset, after_write, after_publish, CanScan, CanReset, CanWrite, CanPublish}
 use Rattle.pin_core.specs.StateInvariant.{holders, CountsAnOther, IsBuilt, Lawful}
 use Rattle.pin_core.proofs.ListLemmas.{at_each}
@@ -82,15 +82,15 @@ pub write_keeps : (W : ℕ) (s : PinState) (k x b : ℕ) → Lawful W s → CanW
 write_keeps W s k x b law can =
     let z = law.sizes in
     let built = law.builds.building b can.0 in
-    let row : List ℕ = set (words_of s b) k x in
+    let row : List ℕ = set (words_of_buffer s b) k x in
     let low : b < length s.words = (let l = z.buffers in let c = built.buffer in omega arith) in
-    let rest : (c : ℕ) → c ≢ b → get_or (set s.words b row) c [] ≡ words_of s c = λ c ne. get_or-set_other s.words b c row [] ne in
+    let rest : (c : ℕ) → c ≢ b → get_or (set s.words b row) c [] ≡ words_of_buffer s c = λ c ne. get_or-set_other s.words b c row [] ne in
     let here : get_or (set s.words b row) b [] ≡ row = get_or-set_same s.words b row [] low in
-    let wide : length (words_of s b) ≡ W = z.widths b built.buffer in
+    let wide : length (words_of_buffer s b) ≡ W = z.widths b built.buffer in
     let at : length s.writer.written ≡ k = can.1 in
-    let fits : k < length (words_of s b) = (let c = can.2 in omega arith) in
+    let fits : k < length (words_of_buffer s b) = (let c = can.2 in omega arith) in
     let longer : length (s.writer.written ++ x ∷ []) ≡ k + 1 = length_push s.writer.written x ∙ ap (λ (n : ℕ). n + 1) at in
-    let front : take k (words_of s b) ≡ s.writer.written = subst (λ (n : ℕ). take n (words_of s b) ≡ s.writer.written) at built.front in
+    let front : take k (words_of_buffer s b) ≡ s.writer.written = subst (λ (n : ℕ). take n (words_of_buffer s b) ≡ s.writer.written) at built.front in
     record {
       sizes = record {
         some_words = z.some_words;
@@ -99,7 +99,7 @@ write_keeps W s k x b law can =
         counters = z.counters;
         starts = z.starts;
         seats = z.seats;
-        widths = at_each (λ c y. c < 8 → length y ≡ W) s.words b row [] low (λ _. length-set (words_of s b) k x ∙ wide) (λ c ne. z.widths c);
+        widths = at_each (λ c y. c < 8 → length y ≡ W) s.words b row [] low (λ _. length-set (words_of_buffer s b) k x ∙ wide) (λ c ne. z.widths c);
         index = z.index;
       };
       latest = record { some = law.latest.some; words = rest s.index (λ e. built.apart (sym e)) ∙ law.latest.words };
@@ -120,7 +120,7 @@ write_keeps W s k x b law can =
           fresh = built.fresh;
           clean = built.clean;
           room = (let c' = can.2 in omega arith);
-          front = ap (λ (n : ℕ). take n (get_or (set s.words b row) b [])) longer ∙ (ap (take (k + 1)) here ∙ (take_more_set (words_of s b) k x fits ∙ ap (λ (l : List ℕ). l ++ x ∷ []) front));
+          front = ap (λ (n : ℕ). take n (get_or (set s.words b row) b [])) longer ∙ (ap (take (k + 1)) here ∙ (take_more_set (words_of_buffer s b) k x fits ∙ ap (λ (l : List ℕ). l ++ x ∷ []) front));
         };
         quiet = law.builds.quiet;
       };
@@ -129,11 +129,11 @@ write_keeps W s k x b law can =
     }
 
 -- a buffer that was built in full has the words written
-pub built_whole : (W : ℕ) (s : PinState) (b : ℕ) → Lawful W s → CanPublish W s b → words_of s b ≡ s.writer.written
+pub built_whole : (W : ℕ) (s : PinState) (b : ℕ) → Lawful W s → CanPublish W s b → words_of_buffer s b ≡ s.writer.written
 built_whole W s b law can =
     let built = law.builds.building b can.0 in
-    let w = law.sizes.widths b built.buffer in let c = can.1 in let le : length (words_of s b) ≤ length s.writer.written = omega arith in
-    sym (take_all (length s.writer.written) (words_of s b) le) ∙ built.front
+    let w = law.sizes.widths b built.buffer in let c = can.1 in let le : length (words_of_buffer s b) ≤ length s.writer.written = omega arith in
+    sym (take_all (length s.writer.written) (words_of_buffer s b) le) ∙ built.front
 
 -- a Publish that can happen keeps the state lawful
 pub publish_keeps : (W : ℕ) (s : PinState) (b : ℕ) → Lawful W s → CanPublish W s b → Lawful W (after_publish s b)

@@ -1,7 +1,7 @@
 -- The table of events: for each of the eight when it can happen (Can..), what its actor knows then (a word in -ing), and the state
 -- behind it (after_..). Each is one atomic step of one actor. W is the number of words of a buffer.
 use Rattle.std.specs.Prelude.{◌≡◌, ◌≢◌, ℕ, ◌+◌, ◌-◌, ◌<◌, Bool, true, false, ◌||◌, ◌==◌, if◌then◌else◌, [], ◌∷◌, ◌++◌, length, slice_index, slice_set, Some, None, ◌⊎◌}
-use Rattle.pin_core.specs.State.{Reader, Writer, PinState, reader, words_of, leavings_of, published}
+use Rattle.pin_core.specs.State.{Reader, Writer, PinState, reader, words_of_buffer, leavings_of, published}
 
 -- Look: reader r asks which buffer is current, and so sees as many publications as there are.
 
@@ -72,7 +72,7 @@ abbrev pub writing : ℕ → Writer → Writer
 writing x w = record w { written = w.written ++ x ∷ [] }
 
 abbrev pub after_write : PinState → ℕ → ℕ → ℕ → PinState
-after_write s k x b = record s { words = slice_set s.words b (slice_set (words_of s b) k x); writer = writing x s.writer }
+after_write s k x b = record s { words = slice_set s.words b (slice_set (words_of_buffer s b) k x); writer = writing x s.writer }
 
 -- Publish: the buffer b, built in full, becomes the current one, with no pins yet; the pins that the old one got are noted.
 

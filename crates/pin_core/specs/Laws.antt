@@ -4,7 +4,7 @@ use Rattle.pin_core.specs.declared.events.Event.{Event}
 use Rattle.pin_core.specs.declared.events.Event.TheVariants.{Unpin, Pin, Read, Scan, Reset, Write, Publish}
 use Rattle.pin_core.specs.declared.events.Seen.{Seen}
 use Rattle.pin_core.specs.declared.events.Seen.TheVariants.{Word}
-use Rattle.pin_core.specs.State.{PinState, reader, words_of, published, publication, opening}
+use Rattle.pin_core.specs.State.{PinState, reader, words_of_buffer, published, publication_at, opening}
 use Rattle.pin_core.specs.Steps.{IsEnabled, Steps, Runs}
 use Rattle.pin_core.specs.StateInvariant.{holders, Lawful, IsIdle}
 
@@ -39,7 +39,7 @@ touched s _ = None
 abbrev pub HeldBuffersAreLeftAlone : Type 0
 HeldBuffersAreLeftAlone = (W : ℕ) (s t : PinState) (e : Event) (a : Seen) (r b p : ℕ)
     → Lawful W s → Steps W s e a t → (reader s r).held ≡ Some (b, p)
-    → (touched s e ≢ Some b) × (words_of t b ≡ words_of s b)
+    → (touched s e ≢ Some b) × (words_of_buffer t b ≡ words_of_buffer s b)
 
 -- these events have no Unpin of reader r
 abbrev pub KeepsHold : ℕ → List Event → Type 0
@@ -55,8 +55,8 @@ ReadsOf r image events answers = (i k : ℕ) → slice_get events i ≡ Some (Re
 abbrev pub ReadsOnePublication : Type 0
 ReadsOnePublication = (W : ℕ) (s t : PinState) (events : List Event) (answers : List Seen) (r b p : ℕ)
     → Lawful W s → Runs W s events answers t → (reader s r).held ≡ Some (b, p) → KeepsHold r events
-    → ((reader t r).held ≡ Some (b, p)) × (publication t p ≡ publication s p) × (length (publication s p) ≡ W)
-    × ReadsOf r (publication s p) events answers
+    → ((reader t r).held ≡ Some (b, p)) × (publication_at t p ≡ publication_at s p) × (length (publication_at s p) ≡ W)
+    × ReadsOf r (publication_at s p) events answers
 
 -- A Pin gives the current buffer with the last publication, whose number is at least what the reader had seen, less one.
 abbrev pub PinsTheLast : Type 0

@@ -59,8 +59,8 @@ opening first = record {
 abbrev pub reader : PinState → ℕ → Reader
 reader s r = slice_index_or s.readers r newcomer
 
-abbrev pub words_of : PinState → ℕ → List ℕ
-words_of s b = slice_index_or s.words b []
+abbrev pub words_of_buffer : PinState → ℕ → List ℕ
+words_of_buffer s b = slice_index_or s.words b []
 
 abbrev pub leavings_of : PinState → ℕ → ℕ
 leavings_of s b = slice_index s.leavings b
@@ -73,9 +73,9 @@ abbrev pub published : PinState → ℕ
 published s = length s.writer.publications
 
 -- the publication with this number, from 0
-abbrev pub publication : PinState → ℕ → List ℕ
-publication s p = slice_index_or s.writer.publications p []
+abbrev pub publication_at : PinState → ℕ → List ℕ
+publication_at s p = slice_index_or s.writer.publications p []
 
 -- how many words a buffer has
 abbrev pub width : PinState → ℕ
-width s = length (words_of s 0)
+width s = length (words_of_buffer s 0)

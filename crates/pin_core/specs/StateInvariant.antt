@@ -1,6 +1,6 @@
 -- What holds of every state that the events reach: the sizes, and seven clauses.
 use Rattle.std.specs.Prelude.{◌≡◌, ◌≢◌, ℕ, ◌+◌, ◌-◌, ◌<◌, ◌≤◌, true, ◌==◌, if◌then◌else◌, List, length, take, sum_by, Option, Some, None}
-use Rattle.pin_core.specs.State.{Reader, PinState, reader, words_of, leavings_of, started_of, published, publication}
+use Rattle.pin_core.specs.State.{Reader, PinState, reader, words_of_buffer, leavings_of, started_of, published, publication_at}
 
 -- 1 where this is held and is buffer b
 abbrev pub at_buffer : ℕ → Option (ℕ × ℕ) → ℕ
@@ -26,19 +26,19 @@ pub record Sizes (W : ℕ) (s : PinState) : Type 0 where
   pub counters : length s.leavings ≡ 8
   pub starts : length s.writer.started ≡ 8
   pub seats : length s.readers ≡ 6
-  pub widths : (b : ℕ) → b < 8 → length (words_of s b) ≡ W
+  pub widths : (b : ℕ) → b < 8 → length (words_of_buffer s b) ≡ W
   pub index : s.index < 8
 
 -- The current buffer's words are the last publication.
 pub record ShowsTheLast (s : PinState) : Type 0 where
   pub some : 0 < published s
-  pub words : words_of s s.index ≡ publication s (published s - 1)
+  pub words : words_of_buffer s s.index ≡ publication_at s (published s - 1)
 
 -- A held buffer's words are its holder's publication, whose number is the last one exactly where that buffer is current.
 -- The buffer is neither being built nor quiet.
 pub record KeepsItsPublication (s : PinState) (b p : ℕ) : Type 0 where
   pub buffer : b < 8
-  pub words : words_of s b ≡ publication s p
+  pub words : words_of_buffer s b ≡ publication_at s p
   pub newest : p + 1 ≡ published s → b ≡ s.index
   pub current : b ≡ s.index → p + 1 ≡ published s
   pub unbuilt : s.writer.building ≢ Some b
@@ -63,7 +63,7 @@ pub record IsBuilt (W : ℕ) (s : PinState) (b : ℕ) : Type 0 where
   pub fresh : started_of s b ≡ 0
   pub clean : leavings_of s b ≡ 0
   pub room : length s.writer.written ≤ W
-  pub front : take (length s.writer.written) (words_of s b) ≡ s.writer.written
+  pub front : take (length s.writer.written) (words_of_buffer s b) ≡ s.writer.written
 
 -- The buffer being built and the quiet one are not current; the one being built is as said above.
 pub record BuildsApart (W : ℕ) (s : PinState) : Type 0 where

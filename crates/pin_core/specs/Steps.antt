@@ -8,7 +8,7 @@ use Rattle.pin_core.specs.declared.events.StepError.{StepError}
 use Rattle.pin_core.specs.declared.events.StepError.TheVariants as fault
 use Rattle.pin_core.specs.declared.events.RunError.{RunError}
 use Rattle.pin_core.specs.declared.events.RunError.TheVariants as stop
-use Rattle.pin_core.specs.State.{PinState, words_of, leavings_of}
+use Rattle.pin_core.specs.State.{PinState, words_of_buffer, leavings_of}
 use Rattle.pin_core.specs.Effects.{CanLook, after_look, CanPin, after_pin, CanUnpin, after_unpin, CanRead, CanScan, after_scan, CanReset, after_reset, CanWrite, after_write, CanPublish, after_publish}
 
 -- When an event can happen.
@@ -27,7 +27,7 @@ abbrev pub Steps : ℕ → PinState → Event → Seen → PinState → Type 0
 Steps W s (Look r) a t = CanLook s r × (a ≡ Index s.index) × (t ≡ after_look s r)
 Steps W s (Unpin r last) a t = (b : ℕ) × (p : ℕ) × CanUnpin s r b p last × (a ≡ Done) × (t ≡ after_unpin s r b last)
 Steps W s (Pin r) a t = CanPin s r × (a ≡ Index s.index) × (t ≡ after_pin s r)
-Steps W s (Read r k) a t = (b : ℕ) × (p : ℕ) × CanRead W s r k b p × (a ≡ Word (slice_index (words_of s b) k)) × (t ≡ s)
+Steps W s (Read r k) a t = (b : ℕ) × (p : ℕ) × CanRead W s r k b p × (a ≡ Word (slice_index (words_of_buffer s b) k)) × (t ≡ s)
 Steps W s (Scan b) a t = CanScan s b × (a ≡ Leavings (leavings_of s b)) × (t ≡ after_scan s b)
 Steps W s (Reset b) a t = CanReset s b × (a ≡ Done) × (t ≡ after_reset s b)
 Steps W s (Write k x) a t = (b : ℕ) × CanWrite W s k b × (a ≡ Done) × (t ≡ after_write s k x b)
@@ -39,13 +39,13 @@ Runs W s [] answers t = (answers ≡ []) × (t ≡ s)
 Runs W s (e ∷ es) answers t = (a : Seen) × (u : PinState) × (rest : List Seen) × (answers ≡ a ∷ rest) × Steps W s e a u × Runs W u es rest t
 
 -- Why one event of s was refused: it can't happen; or it is a Publish, and memory was refused for the copy of its words.
-abbrev pub Refuses : ℕ → PinState → Event → StepError → Type 0
-Refuses W s e fault.NotEnabled = ¬ IsEnabled W s e
-Refuses W s e fault.Memory = (e ≡ Publish) × IsEnabled W s e
+abbrev pub RefusesEvent : ℕ → PinState → Event → StepError → Type 0
+RefusesEvent W s e fault.NotEnabled = ¬ IsEnabled W s e
+RefusesEvent W s e fault.Memory = (e ≡ Publish) × IsEnabled W s e
 
 -- Where a run of these events from s stopped, at t: the ones before index i have happened, and the one there is refused.
 -- With no memory for the answers none has happened.
 abbrev pub Stops : ℕ → PinState → List Event → RunError → PinState → Type 0
 Stops W s es (stop.Refused i error) t = (e : Event) × (answers : List Seen)
-    × (slice_get es i ≡ Some e) × Runs W s (take i es) answers t × Refuses W t e error
+    × (slice_get es i ≡ Some e) × Runs W s (take i es) answers t × RefusesEvent W t e error
 Stops W s es stop.Memory t = t ≡ s

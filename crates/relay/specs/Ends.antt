@@ -32,8 +32,8 @@ items_of tag [] = []
 items_of tag (x ∷ xs) = if x.0 == tag then x.1 ∷ items_of tag xs else items_of tag xs
 
 -- All that a giver handed in was taken, in order.
-abbrev pub Meets : {T : Type 0} → GiverValue T → TakerValue T → Type 0
-Meets giver taker = items_of giver.tag taker.taken ≡ giver.given
+abbrev pub IsAllTaken : {T : Type 0} → GiverValue T → TakerValue T → Type 0
+IsAllTaken giver taker = items_of giver.tag taker.taken ≡ giver.given
 
 -- What was taken of a giver begins what it handed in, and at most so many of its items were not taken.
 abbrev pub LacksAtMost : {T : Type 0} → ℕ → GiverValue T → TakerValue T → Type 0

@@ -1,13 +1,13 @@
 //! What was taken, beside what was handed in.
 ghost use Rattle.std.specs.Prelude.{◌≡◌, true, false};
 ghost use Rattle.crossbeam_queue.specs.SegTies.{IsSegPassOf};
-ghost use Rattle.relay.specs.Ends.{Meets, LacksAtMost};
+ghost use Rattle.relay.specs.Ends.{IsAllTaken, LacksAtMost};
 ghost use Rattle.relay.specs.Rule.{comparing, taking, giving};
 ghost use Rattle.relay.specs.private.Passes.{note_of};
 
 use crate::ends::{Giver, Taker};
 use crate::relay::Relay;
-use crate::rule::{Comparing, Lending, Line, Parting, Pass, Sparing};
+use crate::rule::{Comparing, Lending, Parting, Pass, Queue, Sparing};
 use std::mem;
 use std::sync::Wait;
 
@@ -15,7 +15,7 @@ impl<T: Drop> Relay<T> {
     /// Whether nothing lay in the relay at one moment of the call. Then all that this giver handed in was taken, in order.
     pub fn meets(&self, giver: &mut Giver<T>, taker: &mut Taker<T>) -> bool
         requires relay { (giver.old.relay ≡ self.now) × (taker.old.relay ≡ self.now) }
-        ensures meets { result ≡ true → Meets giver.new taker.new }
+        ensures meets { result ≡ true → IsAllTaken giver.new taker.new }
         ensures same { (giver.new ≡ giver.old) × (taker.new ≡ taker.old) }
     {
         lend(&self.line, &mut giver.pass, &mut taker.pass);
@@ -39,7 +39,7 @@ impl<T: Drop> Relay<T> {
 }
 
 /// The right to give comes to the taker's pass.
-fn lend<T: Drop>(line: &Line<T>, giver: &mut Pass<T>, taker: &mut Pass<T>)
+fn lend<T: Drop>(line: &Queue<T>, giver: &mut Pass<T>, taker: &mut Pass<T>)
     requires line { IsSegPassOf line.now giver.old × IsSegPassOf line.now taker.old }
     requires giver { ((note_of giver.old).gives ≡ true) × ((note_of giver.old).takes ≡ false) }
     requires taker { ((note_of taker.old).takes ≡ true) × ((note_of taker.old).gives ≡ false) }
@@ -52,7 +52,7 @@ fn lend<T: Drop>(line: &Line<T>, giver: &mut Pass<T>, taker: &mut Pass<T>)
 }
 
 /// The right to give leaves the taker's pass.
-fn part<T: Drop>(line: &Line<T>, giver: &mut Pass<T>, taker: &mut Pass<T>)
+fn part<T: Drop>(line: &Queue<T>, giver: &mut Pass<T>, taker: &mut Pass<T>)
     requires line { IsSegPassOf line.now taker.old }
     requires taker { ((note_of taker.old).takes ≡ true) × ((note_of taker.old).gives ≡ true) }
     ensures line { IsSegPassOf line.now giver.new × IsSegPassOf line.now taker.new }

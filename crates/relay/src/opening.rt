@@ -4,7 +4,7 @@ ghost use Rattle.std.specs.Prelude.{◌≡◌, ◌+◌, ◌↔◌, [], None, IfO
 use crate::bell::Bell;
 use crate::ends::{Giver, Taker};
 use crate::relay::Relay;
-use crate::rule::{Hiring, Line};
+use crate::rule::{Hiring, Queue};
 use std::alloc::{AllocError, Global};
 
 impl<T: Drop> Relay<T> {
@@ -12,7 +12,7 @@ impl<T: Drop> Relay<T> {
     pub fn new(alloc: Global) -> Result<(Relay<T>, Taker<T>), AllocError>
         ensures { IfOk result (λ r. r.1 ≡ record { relay = r.0; givers = 0; taken = [] }) }
     {
-        let (line, pass) = Line::with_rule(alloc)?;
+        let (line, pass) = Queue::with_rule(alloc)?;
         let bell = Bell::new();
         Ok((Relay { line, bell }, Taker { givers: 0, pass }))
     }

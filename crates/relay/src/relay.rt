@@ -3,13 +3,13 @@ ghost use Rattle.std.specs.Prelude.{◌≡◌, ◌<◌, [], ◌∷◌, ◌++◌,
 
 use crate::bell::Bell;
 use crate::ends::{Giver, Taker};
-use crate::rule::{Giving, Line, Taking};
+use crate::rule::{Giving, Queue, Taking};
 use std::marker::Model;
 use std::sync::Wait;
 
 /// What many hand in, and one takes, in the order in which it came in, under the tag of the giver that handed it in.
 pub struct Relay<T> {
-    pub(crate) line: Line<T>,
+    pub(crate) line: Queue<T>,
     pub(crate) bell: Bell,
 }
 

@@ -8,7 +8,7 @@ use crossbeam_queue::protocol::{Join, Lesson, Outcome, Protocol, Split};
 use crossbeam_queue::{RuledSegQueue, SegPass};
 
 /// The queue of a relay.
-pub type Line<T> = RuledSegQueue<(u16, T), Note<T>, Rule>;
+pub type Queue<T> = RuledSegQueue<(u16, T), Note<T>, Rule>;
 
 /// The right of an end, with what it knows.
 pub type Pass<T> = SegPass<(u16, T), Note<T>>;

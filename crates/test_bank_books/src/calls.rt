@@ -2,7 +2,7 @@
 use crate::texts::{Said, say, say_answer, say_image, taken_text};
 use std::alloc::Global;
 use xcp_bank::IMAGE_BYTES;
-use xcp_locked::{Caller, Locked, LockedError, Name, Reader, Settled};
+use xcp_locked::{Caller, HeldPublication, Locked, LockedError, Name, Reader};
 use xcp_packet::Packet;
 use xcp_script::{Line, parse_line};
 
@@ -22,7 +22,7 @@ pub fn submitted<N: Name>(
         return Ok(None);
     };
     let mut packet = Packet::new();
-    match locked.submit_into(caller, request.asked(), &mut packet) {
+    match locked.submit_into(caller, request.lent(), &mut packet) {
         Ok(told) => say_answer(alloc, told, &packet),
         Err(refusal) => say_refused(alloc, refusal),
     }
@@ -39,10 +39,10 @@ fn held<N: Name>(reader: &mut Reader<N>) -> Option<[u8; IMAGE_BYTES]> {
 }
 
 /// Which publication a reader holds, as settling says.
-fn say_settled(alloc: Global, settled: Result<Option<Settled>, LockedError>) -> Said {
+fn say_settled(alloc: Global, settled: Result<Option<HeldPublication>, LockedError>) -> Said {
     match settled {
         Ok(Some(held)) => {
-            let Settled {
+            let HeldPublication {
                 number,
                 chapter,
                 from,

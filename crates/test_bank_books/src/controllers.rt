@@ -90,9 +90,9 @@ fn asks(alloc: Global, controller: &mut Controller, line: &str) -> Said {
         return Ok(None);
     };
     if asked.len() < line.len() {
-        return say_whether(alloc, keeps_image(request.asked()));
+        return say_whether(alloc, keeps_image(request.lent()));
     }
-    let told = controller.answer(request.asked());
+    let told = controller.answer(request.lent());
     say_answer(alloc, told, controller.packet())
 }
 

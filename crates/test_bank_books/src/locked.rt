@@ -1,5 +1,6 @@
 //! A slave behind its lock, its callers, its chapters and its readers.
 ghost use Rattle.std.specs.Prelude.{◌≡◌, ◌≤◌};
+ghost use Rattle.xcp_locked.specs.UnnamedSlave.{IsNamed};
 
 use crate::calls::{follows_or_goes, say_refused, submitted};
 use crate::chapters::{joined, numbered, order, say_all_settled, say_of, say_settled};
@@ -222,8 +223,7 @@ fn play_named<N: Name>(
     parts: u8,
     rows: &[Row<'_>],
 ) -> Result<Vec<String>, Trouble>
-    requires name { (unnamed.name ≡ N.name) × (unnamed.callers ≡ N.parts)
-        × (unnamed.layout ≡ N.layout) × (unnamed.bank ≡ N.bank) }
+    requires name { IsNamed unnamed N.name N.parts N.layout N.bank }
     requires parts { unnamed.callers ≡ parts }
 {
     play_opened(alloc, Locked::<N>::new(alloc, unnamed)?, parts, rows)

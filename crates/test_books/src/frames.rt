@@ -11,7 +11,7 @@ use std::alloc::{AllocError, Global};
 use std::fmt::Write;
 use test_playing::{Row, Section, Trouble, bytes_of};
 use xcp_framing::{
-    Cut, Framer, Got, any_cutting_gives_the_same_frames, each_stream_has_its_frames, frame,
+    FedInto, Framer, Got, any_cutting_gives_the_same_frames, each_stream_has_its_frames, frame,
     plain_frames, the_wire_gives_its_packets_back,
 };
 use xcp_packet::Packet;
@@ -43,7 +43,7 @@ impl Finder {
     fn feed(&mut self, piece: &[u8]) -> Result<usize, AllocError> {
         let mut packet = Packet::new();
         let _ = packet.try_extend_from_slice(&[7; 255]);
-        let Cut { used, brought } = self.lent.feed_into(piece, &mut packet);
+        let FedInto { used, brought } = self.lent.feed_into(piece, &mut packet);
         let got = brought.with(packet);
         let fed = self.framer.feed(piece);
         let alike = fed.used == used && fed.got == got;

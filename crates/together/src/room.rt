@@ -1,6 +1,6 @@
 //! Room for threads, made before the first of them.
 ghost use Rattle.std.specs.Prelude.{IfOk};
-ghost use Rattle.together.specs.private.ThreadRoom.{HasRoom};
+ghost use Rattle.together.specs.private.ThreadRoom.{HasThreadRoom};
 
 use std::alloc::{AllocError, Global};
 
@@ -17,7 +17,7 @@ pub fn rooms_for<H: Drop, T: Drop, I: Drop, U: Drop>(
     works: usize,
     others: usize,
 ) -> Result<(Room<H, T>, Room<I, U>), AllocError>
-    ensures { IfOk result (λ r. HasRoom r.0 works × HasRoom r.1 others) }
+    ensures { IfOk result (λ r. HasThreadRoom r.0 works × HasThreadRoom r.1 others) }
 {
     let first = room_for(alloc, works)?;
     let second = room_for(alloc, others)?;
@@ -26,7 +26,7 @@ pub fn rooms_for<H: Drop, T: Drop, I: Drop, U: Drop>(
 
 /// Room for so many works.
 fn room_for<H: Drop, T: Drop>(alloc: Global, works: usize) -> Result<Room<H, T>, AllocError>
-    ensures { IfOk result (λ r. HasRoom r works) }
+    ensures { IfOk result (λ r. HasThreadRoom r works) }
 {
     let handles = Vec::with_capacity(alloc, works)?;
     let results = Vec::with_capacity(alloc, works)?;

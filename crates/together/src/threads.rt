@@ -1,7 +1,7 @@
 //! A thread for each work of one kind.
 ghost use Rattle.std.specs.Prelude.{◌≡◌, ◌≤◌, IfSome, true, vec_len, vec_capacity};
 ghost use Rattle.std.specs.PromisedHandle.{KeepsEach};
-ghost use Rattle.together.specs.private.StandingWorks.{AllStand};
+ghost use Rattle.together.specs.private.StandingWorks.{AllWorksStand};
 
 use crate::work::{Given, Work};
 use std::snapshot::Snapshot;
@@ -19,7 +19,7 @@ pub fn start_all<'s, E, T: Send + Drop + 's, W: Work<T> + 's, R: Threads + Wait 
 ) -> (Vec<PromisedHandle<T, Given<W>>>, bool)
     requires { (vec_len handles ≡ 0) × (vec_len works ≤ vec_capacity handles) }
     ensures few { vec_len result.0 ≤ vec_len works }
-    ensures all { result.1 ≡ true → AllStand works.items result.0.items }
+    ensures all { result.1 ≡ true → AllWorksStand works.items result.0.items }
 {
     let mut handles = handles;
     for work in works {

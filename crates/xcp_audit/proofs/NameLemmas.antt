@@ -115,6 +115,7 @@ in_roster r caller other low small same =
     let number = decimal_injective a.number b.number (omega (arith, p, low)) (omega (arith, q, small)) (behind a.kind (decimal a.number) (decimal b.number) (names ∙ ap (λ k. word k ++ decimal b.number) (sym kinds))) in
     p ∙ ap (λ k. base r k + a.number) kinds ∙ ap (λ n. base r b.kind + n) number ∙ sym q
 
+-- callers below 256 that have the same name are one
 pub one_caller : (roster : Option Roster) (caller other : ℕ) → caller < 256 → other < 256 → caller_name roster caller ≡ caller_name roster other → caller ≡ other
 one_caller None caller other low small same = decimal_injective caller other (omega (arith, low)) (omega (arith, small)) same
 one_caller (Some r) caller other low small same = in_roster r caller other low small same

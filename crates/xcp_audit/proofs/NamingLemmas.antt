@@ -9,13 +9,13 @@ use Rattle.xcp_memory.specs.Layout.{LayoutValue}
 use Rattle.xcp_slave.specs.SlaveValue.{SlaveValue}
 use Rattle.xcp_record.specs.declared.AuditFault.{AuditFault}
 use Rattle.xcp_record.specs.declared.AuditFault.TheVariants as found
-use Rattle.xcp_record.specs.declared.Ending.{Ending}
+use Rattle.xcp_record.specs.declared.FileEnding.{FileEnding}
 use Rattle.xcp_record.specs.declared.Roster.{Roster}
 use Rattle.xcp_record.specs.declared.Settled.{Settled}
 use Rattle.xcp_record.specs.Audit.{Audits, HoldsRun, SaysSettled}
 use Rattle.xcp_record.specs.FileFormat.{chapter_in, ending_in, head, roster_bytes, with_chapters}
 use Rattle.xcp_program.specs.Decided.{answers_decided}
-use Rattle.xcp_audit.specs.Naming.{IsReadBy, Names, named_in}
+use Rattle.xcp_audit.specs.Naming.{IsReadBy, NamesLayout, named_in}
 
 digest_length : (h : List ℕ) (n : ℕ) → length (digest_bytes h n) ≡ 4 * n
 unfolding digest_bytes
@@ -27,7 +27,7 @@ sha256_length : (m : List ℕ) → length (sha256 m) ≡ 32
 unfolding sha256
 sha256_length m = digest_length _ 8
 
-named_length : (config : List ℕ) (layout : LayoutValue) (d : List ℕ) → Names config layout d → length d ≡ 32
+named_length : (config : List ℕ) (layout : LayoutValue) (d : List ℕ) → NamesLayout config layout d → length d ≡ 32
 named_length config layout d (inl a) = ap length a ∙ sha256_length (answers_decided layout)
 named_length config layout d (inr t) = ap length t ∙ sha256_length config
 
@@ -54,7 +54,7 @@ begins before number (calls ∷ chapters) =
     (added ++ next.0, next.1 ∙ append_assoc before added next.0)
 
 -- so a file with a run names what it is of
-run_named : (r : Option Roster) (d : List ℕ) (v : SlaveValue) (all : List ℕ) (n : ℕ) (ending : Ending) → length d ≡ 32 → HoldsRun r d v all n ending → named_in all ≡ d
+run_named : (r : Option Roster) (d : List ℕ) (v : SlaveValue) (all : List ℕ) (n : ℕ) (ending : FileEnding) → length d ≡ 32 → HoldsRun r d v all n ending → named_in all ≡ d
 run_named r d v all n ending is h =
     let file = h.holds.settled.file in
     let chapters = begins (head r d) 0 file.strings in
@@ -62,15 +62,16 @@ run_named r d v all n ending is h =
     ap named_in (h.holds.whole ∙ ap (λ b. b ++ last) (file.whole ∙ chapters.1) ∙ append_assoc (head r d) chapters.0 last) ∙ named_head r d (chapters.0 ++ last) is
 
 -- it is read by what it names, where that is either of the two
-chosen : (config : List ℕ) (layout : LayoutValue) (named digest d : List ℕ) → IsReadBy config layout named digest → Names config layout d → named ≡ d → d ≡ digest
+chosen : (config : List ℕ) (layout : LayoutValue) (named digest d : List ℕ) → IsReadBy config layout named digest → NamesLayout config layout d → named ≡ d → d ≡ digest
 chosen config layout named digest d (inl t) names same = sym same ∙ t.0 ∙ sym t.1
 chosen config layout named digest d (inr a) (inl names) same = names ∙ sym a.1
 chosen config layout named digest d (inr a) (inr names) same = absurd (a.0 (same ∙ names))
 
+-- where a run in a file of the digest by which it is read is said to be settled, so is one in a file that names either SHA-256
 pub settles_either : (config : List ℕ) (layout : LayoutValue) (front digest : List ℕ) (v : SlaveValue) (left : Option (List ℕ)) (said : Result Settled AuditFault)
     → IfSome left (λ all. front ≡ take 38 all) → IsReadBy config layout (named_in front) digest
-    → IfSome left (λ all. (r : Option Roster) (n : ℕ) (ending : Ending) → HoldsRun r digest v all n ending → SaysSettled n ending said)
-    → IfSome left (λ all. (d : List ℕ) (r : Option Roster) (n : ℕ) (ending : Ending) → Names config layout d → HoldsRun r d v all n ending → SaysSettled n ending said)
+    → IfSome left (λ all. (r : Option Roster) (n : ℕ) (ending : FileEnding) → HoldsRun r digest v all n ending → SaysSettled n ending said)
+    → IfSome left (λ all. (d : List ℕ) (r : Option Roster) (n : ℕ) (ending : FileEnding) → NamesLayout config layout d → HoldsRun r d v all n ending → SaysSettled n ending said)
 settles_either config layout front digest v None said fronts read_by settles = tt
 settles_either config layout front digest v (Some all) said fronts read_by settles = λ d r n ending names holds.
     let named = ap named_in fronts ∙ named_take all ∙ run_named r d v all n ending (named_length config layout d names) holds in
@@ -84,7 +85,7 @@ read_begins all (Some more) read h = (more, h)
 -- what is said to be of another layout names neither
 pub others_neither : (config : List ℕ) (layout : LayoutValue) (front digest : List ℕ) (roster : Option Roster) (v : SlaveValue) (left after : Option (List ℕ)) (End : Type 0) (read : List ℕ) (said : Result Settled AuditFault)
     → IfSome left (λ all. front ≡ take 38 all) → IsReadBy config layout (named_in front) digest → Consumes left after read → Audits roster digest v End read said
-    → IfSome left (λ all. said ≡ Err found.OtherLayout → Names config layout (named_in all) → ⊥)
+    → IfSome left (λ all. said ≡ Err found.OtherLayout → NamesLayout config layout (named_in all) → ⊥)
 others_neither config layout front digest roster v None after End read said fronts read_by consumed audits = tt
 others_neither config layout front digest roster v (Some all) after End read said fronts read_by consumed audits = λ is names.
     let other = subst (λ s. Audits roster digest v End read s) is audits in

@@ -30,9 +30,9 @@ caller_name (Some r) caller =
     of_kind (codes "tool ") r.tools (of_kind (codes "task ") r.tasks (of_kind (codes "pump ") r.pumps (of_kind (codes "clock ") r.clocks (λ n. codes "caller " ++ decimal caller)))) caller
 
 -- a call's line: its caller's name, its request and its answer's line, with a tab (9) between them
-abbrev pub line_of : Option Roster → Entry → List ℕ
-line_of roster call = caller_name roster call.caller ++ 9 ∷ words_asked call.exchange.request ++ 9 ∷ text_of call.exchange.answer
+abbrev pub line_of_call : Option Roster → Entry → List ℕ
+line_of_call roster call = caller_name roster call.caller ++ 9 ∷ words_asked call.exchange.request ++ 9 ∷ text_of call.exchange.answer
 
 -- the lines of calls of a file with this roster or none, in order
-abbrev pub lines_of : Option Roster → List Entry → List ℕ
-lines_of roster calls = flat_map (line_of roster) calls
+abbrev pub lines_of_calls : Option Roster → List Entry → List ℕ
+lines_of_calls roster calls = flat_map (line_of_call roster) calls

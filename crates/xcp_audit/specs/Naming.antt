@@ -15,8 +15,8 @@ named_in bytes = take 32 (drop 6 bytes)
 
 -- A file of this layout names one of these: the SHA-256 of what decides the layout's answers, or that of the text of its layout file, as files
 -- of earlier versions of the program do.
-abbrev pub Names : List ℕ → LayoutValue → List ℕ → Type 0
-Names config layout digest = (digest ≡ sha256 (answers_decided layout)) ⊎ (digest ≡ sha256 config)
+abbrev pub NamesLayout : List ℕ → LayoutValue → List ℕ → Type 0
+NamesLayout config layout digest = (digest ≡ sha256 (answers_decided layout)) ⊎ (digest ≡ sha256 config)
 
 -- By this a file is audited that names this: by the SHA-256 of the text where it names that, and else by that of what decides the answers.
 abbrev pub IsReadBy : List ℕ → LayoutValue → List ℕ → List ℕ → Type 0

@@ -4,33 +4,33 @@ use Rattle.std.specs.Io.KnownBytes.{Consumes, IsAtEnd}
 use Rattle.xcp_memory.specs.Layout.{LayoutValue}
 use Rattle.xcp_slave.specs.SlaveValue.{opening}
 use Rattle.xcp_trace.specs.declared.Entry.{Entry}
-use Rattle.xcp_record.specs.declared.Ending.{Ending}
-use Rattle.xcp_record.specs.declared.Ending.TheVariants as endings
+use Rattle.xcp_record.specs.declared.FileEnding.{FileEnding}
+use Rattle.xcp_record.specs.declared.FileEnding.TheVariants as endings
 use Rattle.xcp_record.specs.declared.Settled.{Settled}
 use Rattle.xcp_record.specs.declared.AuditFault.{AuditFault}
 use Rattle.xcp_record.specs.declared.AuditFault.TheVariants as found
 use Rattle.xcp_record.specs.declared.Roster.{Roster}
-use Rattle.xcp_record.specs.Audit.{Audits, Hears, HoldsRun, SaysSettled}
+use Rattle.xcp_record.specs.Audit.{Audits, Witnesses, HoldsRun, SaysSettled}
 use Rattle.xcp_program.specs.declared.Fault.{Fault}
 use Rattle.xcp_program.specs.declared.Fault.TheVariants as faults
 use Rattle.xcp_audit.specs.declared.printer.Trouble.{Trouble}
 use Rattle.xcp_audit.specs.declared.printer.Trouble.TheVariants as troubles
-use Rattle.xcp_audit.specs.CallLine.{lines_of}
-use Rattle.xcp_audit.specs.Naming.{IsReadBy, Names, named_in}
+use Rattle.xcp_audit.specs.CallLine.{lines_of_calls}
+use Rattle.xcp_audit.specs.Naming.{IsReadBy, NamesLayout, named_in}
 use Rattle.xcp_audit.specs.Printing.{Prints, Stand}
 
 -- that a whole file is settled, and how it ends
-abbrev pub settled_in : Ending → List ℕ
+abbrev pub settled_in : FileEnding → List ℕ
 settled_in endings.Ended = codes "\nsettled\nended\n"
 settled_in endings.Open = codes "\nsettled\nopen\n"
 
 -- the lines behind those of the calls, by what the audit says
-abbrev pub end_of : Result Settled AuditFault → List ℕ
-end_of (Ok s) = codes "calls " ++ decimal s.calls ++ settled_in s.ending
-end_of (Err (found.Cut n)) = codes "calls " ++ decimal n ++ codes "\n"
-end_of (Err (found.Altered n)) = codes "calls " ++ decimal n ++ codes "\n"
-end_of (Err (found.TooLong n)) = codes "calls " ++ decimal n ++ codes "\n"
-end_of (Err e) = []
+abbrev pub closing_lines : Result Settled AuditFault → List ℕ
+closing_lines (Ok s) = codes "calls " ++ decimal s.calls ++ settled_in s.ending
+closing_lines (Err (found.Cut n)) = codes "calls " ++ decimal n ++ codes "\n"
+closing_lines (Err (found.Altered n)) = codes "calls " ++ decimal n ++ codes "\n"
+closing_lines (Err (found.TooLong n)) = codes "calls " ++ decimal n ++ codes "\n"
+closing_lines (Err e) = []
 
 -- what is answered, likewise
 abbrev pub verdict_of : Result Settled AuditFault → Result (Unit {0}) Fault
@@ -51,12 +51,12 @@ answer_after (Some troubles.Memory) said = Err faults.Memory
 answer_after None said = verdict_of said
 
 -- Where a journal's reader stands: the bytes that it has left, where they are known, and how many of its reads have failed.
-pub record Reading : Type 0 where
+pub record JournalReading : Type 0 where
   pub left : Option (List ℕ)
   pub failures : ℕ
 
 -- a read failed exactly where the audit says so
-pub record ReadsTo (old new : Reading) (said : Result Settled AuditFault) : Type 0 where
+pub record ReadsTo (old new : JournalReading) (said : Result Settled AuditFault) : Type 0 where
   pub failed : said ≡ Err found.Read → old.failures < new.failures
   pub unfailed : said ≢ Err found.Read → new.failures ≡ old.failures
 
@@ -64,7 +64,7 @@ pub record ReadsTo (old new : Reading) (said : Result Settled AuditFault) : Type
 -- SHA-256; what it says of another layout it says of neither, and of a run in a file that names either it says that it is settled. What it says
 -- is printed, and where lines are wanted the lines of its calls before that, with the names of their callers by the roster of the file, if it
 -- has one; then it is answered.
-pub record PrintsAudit (config : List ℕ) (layout : LayoutValue) (head : List ℕ) (before after : Reading) (lines : Bool) (old new : Stand) (result : Result (Unit {0}) Fault) : Type 0 where
+pub record PrintsAudit (config : List ℕ) (layout : LayoutValue) (head : List ℕ) (before after : JournalReading) (lines : Bool) (old new : Stand) (result : Result (Unit {0}) Fault) : Type 0 where
   pub said : Result Settled AuditFault
   pub digest : List ℕ
   pub read_by : IsReadBy config layout (named_in head) digest
@@ -72,10 +72,10 @@ pub record PrintsAudit (config : List ℕ) (layout : LayoutValue) (head : List �
   pub consumed : Consumes before.left after.left read
   pub roster : Option Roster
   pub audits : Audits roster digest (opening layout) (IsAtEnd after.left) read said
-  pub others : IfSome before.left (λ all. said ≡ Err found.OtherLayout → Names config layout (named_in all) → ⊥)
-  pub settles : IfSome before.left (λ all. (d : List ℕ) (r : Option Roster) (n : ℕ) (ending : Ending) → Names config layout d → HoldsRun r d (opening layout) all n ending → SaysSettled n ending said)
+  pub others : IfSome before.left (λ all. said ≡ Err found.OtherLayout → NamesLayout config layout (named_in all) → ⊥)
+  pub settles : IfSome before.left (λ all. (d : List ℕ) (r : Option Roster) (n : ℕ) (ending : FileEnding) → NamesLayout config layout d → HoldsRun r d (opening layout) all n ending → SaysSettled n ending said)
   pub reads : ReadsTo before after said
   pub calls : List Entry
-  pub hears : Hears roster digest read said calls
-  pub printed : Prints old new ((if lines then lines_of roster calls else []) ++ end_of said)
+  pub hears : Witnesses roster digest read said calls
+  pub printed : Prints old new ((if lines then lines_of_calls roster calls else []) ++ closing_lines said)
   pub answered : result ≡ answer_after new.trouble said

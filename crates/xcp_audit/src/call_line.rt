@@ -1,7 +1,7 @@
 //! The line of a call, and the name of its caller.
 ghost use Rattle.std.specs.Prelude.{◌≡◌, ◌++◌, IfOk, OnOk, Some, codes, decimal, string_bytes};
 ghost use Rattle.hex.specs.Hex.{encode_upper};
-ghost use Rattle.xcp_audit.specs.CallLine.{caller_name, line_of, words_asked};
+ghost use Rattle.xcp_audit.specs.CallLine.{caller_name, line_of_call, words_asked};
 
 use std::alloc::{AllocError, Global};
 use xcp_packet::Packet;
@@ -16,7 +16,7 @@ pub(crate) fn push_line(
     roster: Option<Roster>,
     call: &Entry,
 ) -> Result<(), AllocError>
-    ensures { OnOk result (text.new.items ≡ text.old.items ++ line_of roster call.now) }
+    ensures { OnOk result (text.new.items ≡ text.old.items ++ line_of_call roster call.now) }
 {
     push_caller(text, roster, call.caller)?;
     text.push(b'\t')?;

@@ -81,11 +81,11 @@ impl<W: Write> Printer<W> {
 
 /// Prints the line of each call.
 impl<W: Write> Witness for Printer<W> {
-    ghost use Rattle.xcp_audit.specs.CallLine.{lines_of};
+    ghost use Rattle.xcp_audit.specs.CallLine.{lines_of_calls};
     ghost use Rattle.xcp_audit.specs.Printing.{Prints, stand_of};
     ghost use Rattle.xcp_audit.specs.private.PrintingLaws.{lines_more, prints_none};
 
-    ghost hears = { λ x roster calls y. Prints (stand_of W.contents x) (stand_of W.contents y) (lines_of roster calls) };
+    ghost hears = { λ x roster calls y. Prints (stand_of W.contents x) (stand_of W.contents y) (lines_of_calls roster calls) };
 
     fn told(&mut self, roster: Option<Roster>, call: &Entry) {
         let mut line = Vec::new(self.alloc);

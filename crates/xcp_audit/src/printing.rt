@@ -6,12 +6,12 @@ ghost use Rattle.xcp_slave.specs.SlaveValue.{SlaveValue};
 ghost use Rattle.xcp_trace.specs.declared.Entry.{Entry};
 ghost use Rattle.xcp_config.specs.TableLayout.{File};
 ghost use Rattle.xcp_program.specs.Beginning.{BeginsWith};
-ghost use Rattle.xcp_record.specs.Audit.{Audits, Hears, HoldsRun, SaysSettled};
-ghost use Rattle.xcp_record.specs.declared.Ending.{Ending};
+ghost use Rattle.xcp_record.specs.Audit.{Audits, Witnesses, HoldsRun, SaysSettled};
+ghost use Rattle.xcp_record.specs.declared.FileEnding.{FileEnding};
 ghost use Rattle.xcp_record.specs.declared.Roster.{Roster};
-ghost use Rattle.xcp_audit.specs.CallLine.{lines_of};
+ghost use Rattle.xcp_audit.specs.CallLine.{lines_of_calls};
 ghost use Rattle.xcp_audit.specs.Printing.{Prints, stand_of};
-ghost use Rattle.xcp_audit.specs.PrintedAudit.{PrintsAudit, ReadsTo, answer_after, end_of, settled_in, verdict_of};
+ghost use Rattle.xcp_audit.specs.PrintedAudit.{PrintsAudit, ReadsTo, answer_after, closing_lines, settled_in, verdict_of};
 
 use crate::head::digest_for;
 use crate::printer::{Printer, Trouble};
@@ -20,7 +20,7 @@ use std::io::{Read, Write};
 use xcp_framing::Watched;
 use xcp_memory::Layout;
 use xcp_program::Fault;
-use xcp_record::{AuditFault, Ending, Settled, Silent, audit};
+use xcp_record::{AuditFault, FileEnding, Settled, Silent, audit};
 use xcp_slave::Slave;
 
 /// Executes the calls of a journal's file again, on a new slave of this layout, which the text of the layout file describes,
@@ -77,11 +77,11 @@ fn audited<R: Read, W: Write>(
         × (roster : Option Roster) × Audits roster layout.now slave (IsAtEnd (R.remaining reader.new.inner)) read result
         × (calls : List Entry)
         × Prints (stand_of W.contents printer.old) (stand_of W.contents printer.new)
-        (if lines then lines_of roster calls else [])
-        × Hears roster layout.now read result calls }
+        (if lines then lines_of_calls roster calls else [])
+        × Witnesses roster layout.now read result calls }
     ensures unfailed { result ≢ Err AuditFault.Read → reader.new.failures ≡ reader.old.failures }
     ensures failed { result ≡ Err AuditFault.Read → reader.old.failures < reader.new.failures }
-    ensures settles { IfSome (R.remaining reader.old.inner) (λ all. (roster : Option Roster) (n : ℕ) (ending : Ending)
+    ensures settles { IfSome (R.remaining reader.old.inner) (λ all. (roster : Option Roster) (n : ℕ) (ending : FileEnding)
         → HoldsRun roster layout.now slave all n ending → SaysSettled n ending result) }
 {
     if lines {
@@ -94,7 +94,7 @@ fn audited<R: Read, W: Write>(
 /// Prints the lines at the end.
 fn print_end<W: Write>(alloc: Global, said: &Result<Settled, AuditFault>, printer: &mut Printer<W>)
     ensures { Prints (stand_of W.contents printer.old) (stand_of W.contents printer.new)
-        (end_of said.now) }
+        (closing_lines said.now) }
 {
     match end_of(alloc, said) {
         Ok(text) => printer.print(text.as_bytes()),
@@ -104,7 +104,7 @@ fn print_end<W: Write>(alloc: Global, said: &Result<Settled, AuditFault>, printe
 
 /// The lines at the end.
 fn end_of(alloc: Global, said: &Result<Settled, AuditFault>) -> Result<String, AllocError>
-    ensures { IfOk result (λ text. string_bytes text ≡ end_of said.now) }
+    ensures { IfOk result (λ text. string_bytes text ≡ closing_lines said.now) }
 {
     match said {
         Ok(settled) => settled_of(alloc, settled.calls, settled.ending),
@@ -116,12 +116,12 @@ fn end_of(alloc: Global, said: &Result<Settled, AuditFault>) -> Result<String, A
 }
 
 /// The lines that say how many calls are settled, and how the file ends.
-fn settled_of(alloc: Global, calls: u64, ending: Ending) -> Result<String, AllocError>
+fn settled_of(alloc: Global, calls: u64, ending: FileEnding) -> Result<String, AllocError>
     ensures { IfOk result (λ text. string_bytes text ≡ codes "calls " ++ decimal calls ++ settled_in ending) }
 {
     match ending {
-        Ending::Ended => format!(in alloc; "calls {calls}\nsettled\nended\n"),
-        Ending::Open => format!(in alloc; "calls {calls}\nsettled\nopen\n"),
+        FileEnding::Ended => format!(in alloc; "calls {calls}\nsettled\nended\n"),
+        FileEnding::Open => format!(in alloc; "calls {calls}\nsettled\nopen\n"),
     }
 }
 

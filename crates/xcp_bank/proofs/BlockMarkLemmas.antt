@@ -5,7 +5,7 @@ use Rattle.std.specs.Int.{w64, from_le_bytes}
 use mathlib.Core.Logic.{dite}
 use native.Mathlib.Decide.{ℕ_discrete, dec_le}
 use Rattle.pin_core.specs.State.{opening}
-use Rattle.xcp_bank.specs.private.ImageWords.{word_of, words_for}
+use Rattle.xcp_bank.specs.private.ImageWords.{word_in_image, words_for}
 use Rattle.xcp_bank.specs.private.BlockMarks.{blocks_in, mark_of, Sized, IsMarked, MarkedToo, TakenAway}
 use Rattle.xcp_bank.specs.private.SeatSteps.{HasWords}
 use Rattle.xcp_bank.proofs.ImageLemmas.{for_word}
@@ -47,7 +47,7 @@ all_marked W marks all image size each sized long = record {
 }
 
 -- images that have the same bytes in a word have the same word
-same_word : (a b : List ℕ) (k : ℕ) → 8 * k + 8 ≤ length a → length a ≡ length b → ((i : ℕ) → 8 * k ≤ i → i < 8 * k + 8 → get_or a i 0 ≡ get_or b i 0) → word_of a k ≡ word_of b k
+same_word : (a b : List ℕ) (k : ℕ) → 8 * k + 8 ≤ length a → length a ≡ length b → ((i : ℕ) → 8 * k ≤ i → i < 8 * k + 8 → get_or a i 0 ≡ get_or b i 0) → word_in_image a k ≡ word_in_image b k
 same_word a b k inside long same =
     let da = length-drop (8 * k) a in let db = length-drop (8 * k) b in
     let ta = length-take-le 8 (drop (8 * k) a) (omega arith) in let tb = length-take-le 8 (drop (8 * k) b) (omega arith) in

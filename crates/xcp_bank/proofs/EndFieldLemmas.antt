@@ -4,7 +4,7 @@ use Rattle.std.proofs.lemmas.Option.{same_Some}
 use Rattle.atomic_table.specs.Seated.{TableId}
 use Rattle.atomic_table.specs.declared.shared.Seat.{Seat as Token}
 use Rattle.xcp_bank.specs.SeatKnowledge.{Reading, Writing, Known}
-use Rattle.xcp_bank.specs.private.ReaderSteps.{Seat, Follows}
+use Rattle.xcp_bank.specs.private.ReaderSteps.{Seat, FollowsHistory}
 use Rattle.xcp_bank.specs.private.SeatSteps.{IsReaderSeat, IsWriterSeat, Rests, buffer_held}
 use Rattle.xcp_bank.specs.private.BlockMarks.{IsMarked}
 use Rattle.xcp_bank.specs.BankEnds.{writer_end, newest}
@@ -16,14 +16,14 @@ pub reader_is : (token : Token (Unit {0}) Known) (bank : TableId) (r : ℕ) (y :
 reader_is token bank r y s = ap (λ (m : Seat). first_reader m.0.readers) s.me
 
 -- a reader's seat and what buffer it holds, below 8, make lawful fields, if it isn't gone and its history is a run
-pub kept_by : (token : Token (Unit {0}) Known) (bank : TableId) (r : ℕ) (y : Reading) (held : Option ℕ) → IsReaderSeat token bank r y → Follows bank.slots r y → y.pins.gone ≡ false → held ≡ buffer_held y → ((b : ℕ) → held ≡ Some b → b < 8) → ReaderKept bank held (Some token)
+pub kept_by : (token : Token (Unit {0}) Known) (bank : TableId) (r : ℕ) (y : Reading) (held : Option ℕ) → IsReaderSeat token bank r y → FollowsHistory bank.slots r y → y.pins.gone ≡ false → held ≡ buffer_held y → ((b : ℕ) → held ≡ Some b → b < 8) → ReaderKept bank held (Some token)
 kept_by token bank r y held s follows here is low =
     let e = sym (reader_is token bank r y s) in
     record {
       token = token;
       is = refl;
       sits = subst (λ (z : ℕ × Reading). IsReaderSeat token bank z.0 z.1) e s;
-      follows = subst (λ (z : ℕ × Reading). Follows bank.slots z.0 z.1) e follows;
+      follows = subst (λ (z : ℕ × Reading). FollowsHistory bank.slots z.0 z.1) e follows;
       here = subst (λ (z : ℕ × Reading). z.1.pins.gone ≡ false) e here;
       held_is = subst (λ (z : ℕ × Reading). held ≡ buffer_held z.1) e is;
       low = low;

@@ -4,7 +4,7 @@ use Rattle.std.proofs.lemmas.List.{append-nil}
 use Rattle.pin_core.specs.declared.events.Seen.{Seen}
 use Rattle.pin_core.specs.State.{PinState}
 use Rattle.pin_core.specs.Steps.{Steps, Runs}
-use Rattle.xcp_bank.specs.PinHistory.{Deed, events_of, answers_of, doer, deeds_by, Grows, Does, AllScans, has_scanned, has_read, reads_of}
+use Rattle.xcp_bank.specs.PinHistory.{Deed, deed_events, answers_of, doer, deeds_by, Grows, Does, AllScans, has_scanned, has_read, reads_of}
 use mathlib.Core.List.{IsPrefix}
 use Rattle.xcp_bank.specs.SeatKnowledge.{Reading}
 use Rattle.xcp_bank.specs.TableRule.{RecordsAll, StandsForAll}
@@ -18,9 +18,9 @@ pub tail_same : (a b : Seen) (l m : List Seen) → a ∷ l ≡ b ∷ m → l ≡
 tail_same a b l m e = cc
 
 -- a run of a history and a step from its end make a run of the history with this deed at its end
-pub runs_more : (W : ℕ) (s t u : PinState) (ds : List Deed) (d : Deed) → Runs W s (events_of ds) (answers_of ds) t → Steps W t d.0 d.1 u → Runs W s (events_of (ds ++ d ∷ [])) (answers_of (ds ++ d ∷ [])) u
+pub runs_more : (W : ℕ) (s t u : PinState) (ds : List Deed) (d : Deed) → Runs W s (deed_events ds) (answers_of ds) t → Steps W t d.0 d.1 u → Runs W s (deed_events (ds ++ d ∷ [])) (answers_of (ds ++ d ∷ [])) u
 runs_more W s t u [] d r st = (d.1, u, [], refl, subst (λ (z : PinState). Steps W z d.0 d.1 u) r.1 st, (refl, refl))
-runs_more W s t u (x ∷ ds) d r st = (r.0, r.1, answers_of (ds ++ d ∷ []), ap (λ (z : Seen). z ∷ answers_of (ds ++ d ∷ [])) (head_same x.1 r.0 (answers_of ds) r.2 r.3), r.4, runs_more W r.1 t u ds d (subst (λ (l : List Seen). Runs W r.1 (events_of ds) l t) (sym (tail_same x.1 r.0 (answers_of ds) r.2 r.3)) r.5) st)
+runs_more W s t u (x ∷ ds) d r st = (r.0, r.1, answers_of (ds ++ d ∷ []), ap (λ (z : Seen). z ∷ answers_of (ds ++ d ∷ [])) (head_same x.1 r.0 (answers_of ds) r.2 r.3), r.4, runs_more W r.1 t u ds d (subst (λ (l : List Seen). Runs W r.1 (deed_events ds) l t) (sym (tail_same x.1 r.0 (answers_of ds) r.2 r.3)) r.5) st)
 
 one : (d : Deed) (l m n : List Deed) → l ≡ m ++ n → (t : Bool) → cond t (d ∷ l) l ≡ cond t (d ∷ m) m ++ n
 one d l m n e true = ap (λ (z : List Deed). d ∷ z) e

@@ -11,7 +11,7 @@ use Rattle.pin_core.specs.declared.events.Seen.{Seen}
 use Rattle.pin_core.specs.declared.events.Seen.TheVariants as an
 use Rattle.pin_core.specs.State.{PinState, opening}
 use Rattle.pin_core.specs.Steps.{Steps, Runs}
-use Rattle.xcp_bank.specs.PinHistory.{Deed, events_of, answers_of, doer, deeds_by, Does, looked_at}
+use Rattle.xcp_bank.specs.PinHistory.{Deed, deed_events, answers_of, doer, deeds_by, Does, looked_at}
 use Rattle.xcp_bank.specs.SeatKnowledge.{Reading, Writing, Known, one_reader}
 use Rattle.xcp_bank.specs.TableRule.{Banked}
 use Rattle.xcp_bank.proofs.HistoryLemmas.{by_app, head_same, tail_same}
@@ -53,9 +53,9 @@ none_right [] m e = e
 none_right (d ∷ l) m e = absurd (not_empty d (l ++ m) e)
 
 -- a run of two parts
-pub runs_split : (W : ℕ) (s t : PinState) (ds es : List Deed) → Runs W s (events_of (ds ++ es)) (answers_of (ds ++ es)) t → (u : PinState) × Runs W u (events_of es) (answers_of es) t
+pub runs_split : (W : ℕ) (s t : PinState) (ds es : List Deed) → Runs W s (deed_events (ds ++ es)) (answers_of (ds ++ es)) t → (u : PinState) × Runs W u (deed_events es) (answers_of es) t
 runs_split W s t [] es r = (s, r)
-runs_split W s t (d ∷ ds) es r = runs_split W r.1 t ds es (subst (λ (l : List Seen). Runs W r.1 (events_of (ds ++ es)) l t) (sym (tail_same d.1 r.0 (answers_of (ds ++ es)) r.2 r.3)) r.5)
+runs_split W s t (d ∷ ds) es r = runs_split W r.1 t ds es (subst (λ (l : List Seen). Runs W r.1 (deed_events (ds ++ es)) l t) (sym (tail_same d.1 r.0 (answers_of (ds ++ es)) r.2 r.3)) r.5)
 
 -- a reader's step leaves the current buffer, and so do steps of readers alone
 index_step : (W : ℕ) (s t : PinState) (e : Event) (a : Seen) → doer e ≢ 0 → Steps W s e a t → t.index ≡ s.index
@@ -71,15 +71,15 @@ index_step W s t ev.Publish a ne st = absurd (ne refl)
 not_mine : (d : Deed) (ds : List Deed) → deeds_by 0 (d ∷ ds) ≡ [] → doer d.0 ≢ 0
 not_mine d ds e z = not_empty d (deeds_by 0 ds) (sym (ap (λ (t : Bool). cond t (d ∷ deeds_by 0 ds) (deeds_by 0 ds)) (eq-eqb 0 (doer d.0) (sym z))) ∙ e)
 
-index_kept : (W : ℕ) (s t : PinState) (ds : List Deed) → deeds_by 0 ds ≡ [] → Runs W s (events_of ds) (answers_of ds) t → t.index ≡ s.index
+index_kept : (W : ℕ) (s t : PinState) (ds : List Deed) → deeds_by 0 ds ≡ [] → Runs W s (deed_events ds) (answers_of ds) t → t.index ≡ s.index
 index_kept W s t [] none r = ap (λ (z : PinState). z.index) r.1
 index_kept W s t (d ∷ ds) none r =
     let none' : deeds_by 0 (d ∷ []) ++ deeds_by 0 ds ≡ [] = sym (by_app 0 (d ∷ []) ds) ∙ none in
-    index_kept W r.1 t ds (none_right (deeds_by 0 (d ∷ [])) (deeds_by 0 ds) none') (subst (λ (l : List Seen). Runs W r.1 (events_of ds) l t) (sym (tail_same d.1 r.0 (answers_of ds) r.2 r.3)) r.5)
+    index_kept W r.1 t ds (none_right (deeds_by 0 (d ∷ [])) (deeds_by 0 ds) none') (subst (λ (l : List Seen). Runs W r.1 (deed_events ds) l t) (sym (tail_same d.1 r.0 (answers_of ds) r.2 r.3)) r.5)
     ∙ index_step W s r.1 d.0 d.1 (not_mine d ds none) (subst (λ (z : Seen). Steps W s d.0 z r.1) (sym (head_same d.1 r.0 (answers_of ds) r.2 r.3)) r.4)
 
 -- a Look and what follows without the writer: it was answered by the buffer that is current at the end
-look_tells_the_end : (W : ℕ) (s t : PinState) (r i : ℕ) (ds : List Deed) → deeds_by 0 (looked_at r i ∷ ds) ≡ [] → Runs W s (events_of (looked_at r i ∷ ds)) (answers_of (looked_at r i ∷ ds)) t → i ≡ t.index
+look_tells_the_end : (W : ℕ) (s t : PinState) (r i : ℕ) (ds : List Deed) → deeds_by 0 (looked_at r i ∷ ds) ≡ [] → Runs W s (deed_events (looked_at r i ∷ ds)) (answers_of (looked_at r i ∷ ds)) t → i ≡ t.index
 look_tells_the_end W s t r i ds none k =
     let answer : an.Index i ≡ an.Index s.index = head_same (an.Index i) k.0 (answers_of ds) k.2 k.3 ∙ k.4.1 in
     let same : i ≡ s.index = cc in
@@ -117,7 +117,7 @@ module _ (W : ℕ) (t : State (Unit {0}) Known) (b : Banked W t) (id r : ℕ) (x
       let last = (b'.writer j v w there' leads).1 in
       let total : b'.history ≡ front ++ (d ∷ mine.more) = mine.is ∙ (ap (λ (l : List Deed). l ++ mine.more) ends ∙ append_assoc front (d ∷ []) mine.more) in
       let by_run : deeds_by 0 (d ∷ mine.more) ≡ [] → i ≡ w.current = λ quiet.
-      let run = runs_split W (opening b'.first) b'.core front (d ∷ mine.more) (subst (λ (l : List Deed). Runs W (opening b'.first) (events_of l) (answers_of l) b'.core) total b'.run) in
+      let run = runs_split W (opening b'.first) b'.core front (d ∷ mine.more) (subst (λ (l : List Deed). Runs W (opening b'.first) (deed_events l) (answers_of l) b'.core) total b'.run) in
       look_tells_the_end W run.0 b'.core r i mine.more quiet run.1 ∙ last.current in
       ⊎_elim {A = (q : List Deed) × (w.history ≡ front ++ q) × (d ∷ mine.more ≡ q ++ led.more)} {B = (q : List Deed) × (front ≡ w.history ++ q) × (led.more ≡ q ++ (d ∷ mine.more))}
       (λ h. starts h.0 front d mine.more led.more h.1 h.2 led.own_is did settled ends by_run)

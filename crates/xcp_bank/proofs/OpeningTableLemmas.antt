@@ -4,7 +4,7 @@ use Rattle.std.proofs.lemmas.Option.{same_Some}
 use mathlib.Core.Option.{some, some-injective, some-ne-none}
 use lib.ListN.{get_elem?}
 use Rattle.atomic_table.specs.Table.{opening as table_opening}
-use Rattle.pin_core.specs.State.{PinState, newcomer, publication, opening}
+use Rattle.pin_core.specs.State.{PinState, newcomer, publication_at, opening}
 use Rattle.pin_core.specs.StateInvariant.{Lawful}
 use Rattle.pin_core.proofs.OpeningLaws.{opening_lawful, alike, within, none_there}
 use Rattle.xcp_bank.specs.PinHistory.{Grows}
@@ -55,7 +55,7 @@ module _ (W : ℕ) (image ws : List ℕ) (wide : length image ≡ W) (more : 0 <
     writer = led;
   }
     where
-      first_numbered : (p : ℕ) → p < 1 → IsNumbered W p (publication s p)
+      first_numbered : (p : ℕ) → p < 1 → IsNumbered W p (publication_at s p)
       first_numbered zero l = record { size = wide; number = last }
       first_numbered (suc p) l = absurd (omega arith)
 

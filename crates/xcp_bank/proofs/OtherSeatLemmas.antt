@@ -4,7 +4,7 @@ use mathlib.Core.Option.{some}
 use lib.ListN.{get_elem?}
 use Rattle.atomic_table.specs.Table.{State}
 use Rattle.atomic_table.proofs.Lists.{at_set}
-use Rattle.pin_core.specs.State.{Reader, PinState, reader, published, publication}
+use Rattle.pin_core.specs.State.{Reader, PinState, reader, published, publication_at}
 use Rattle.pin_core.specs.StateInvariant.{Lawful}
 use Rattle.pin_core.specs.Steps.{Steps}
 use Rattle.pin_core.specs.State.{opening}
@@ -12,11 +12,11 @@ use Rattle.xcp_bank.specs.PinHistory.{Deed, doer, Grows}
 use Rattle.xcp_bank.specs.TableRule.{RecordsAll}
 use Rattle.xcp_bank.proofs.HistoryLemmas.{runs_more, records_still, grows_else}
 use Rattle.xcp_bank.specs.SeatKnowledge.{Reading, Writing, Known}
-use Rattle.xcp_bank.specs.TableRule.{Shows, IsNumbered, Stands, StandsForAll, Leads, Banked}
+use Rattle.xcp_bank.specs.TableRule.{Shows, IsNumbered, StandsFor, StandsForAll, Leads, Banked}
 
 -- who stands for a reader still does where the reader is as it was and the publications only grow
 module _ (s t : PinState) (own own' : ℕ → ℕ) (grow : (n : ℕ) → n ≤ published s → take n t.writer.publications ≡ take n s.writer.publications) (below : (r : ℕ) → (reader s r).seen ≤ published s) where
-  pub stands_still : (id id' r : ℕ) (x : Reading) → reader t r ≡ reader s r → own' r ≡ id' → Stands s own id r x → Stands t own' id' r x
+  pub stands_still : (id id' r : ℕ) (x : Reading) → reader t r ≡ reader s r → own' r ≡ id' → StandsFor s own id r x → StandsFor t own' id' r x
   stands_still id id' r x same mine k = record {
     inside = k.inside;
     mine = mine;
@@ -32,7 +32,7 @@ module _ (s t : PinState) (own own' : ℕ → ℕ) (grow : (n : ℕ) → n ≤ p
 module _ (W : ℕ) (t : State (Unit {0}) Known) (b : Banked W t) where
   -- the seat `id` makes a step, after which the core is s and it knows v
   pub seat_step : (id : ℕ) (v : Known) (ws : List ℕ) (s : PinState) → Lawful W s → Shows W ws s
-      → ((p : ℕ) → p < published s → IsNumbered W p (publication s p))
+      → ((p : ℕ) → p < published s → IsNumbered W p (publication_at s p))
       → StandsForAll s b.own id v.readers
       → ((w : Writing) → v.writer ≡ Some w → (b.writer_seat ≡ id) × Leads s w)
       → ((q : ℕ) → b.own q ≢ id → reader s q ≡ reader b.core q)

@@ -9,7 +9,7 @@ use mathlib.Core.Logic.{dite}
 use native.Mathlib.Decide.{ℕ_discrete, dec_le}
 use Rattle.xcp_bank.specs.SeatKnowledge.{Writing, Known}
 use Rattle.xcp_bank.proofs.WriterRuleLemmas.{again_keeps}
-use Rattle.xcp_bank.specs.private.WriterSteps.{Scanned, WasReset, Written, WrittenAgain, standing, word_there, rewritten, Published, writing_after_scan, writing_after_reset, writing_after_publish}
+use Rattle.xcp_bank.specs.private.WriterSteps.{Scanned, WasReset, Written, WrittenAgain, standing, word_there, rewritten, SeatPublished, writing_after_scan, writing_after_reset, writing_after_publish}
 use Rattle.xcp_bank.specs.private.BlockMarks.{Sized}
 use Rattle.xcp_bank.specs.private.SeatSteps.{IsWriterSeat, HasWords, WrittenSoFar, Rests, Searched, FoundQuiet, scanned_to, filled, Publishes}
 
@@ -216,7 +216,7 @@ module _ (bank : TableId) (b : ℕ) (words : List ℕ) (long : length words ≡ 
         )
 
 module _ (w : Writing) (current : ℕ) (started : List ℕ) (rests : Rests current started w) (b : ℕ) (words : List ℕ) (u1 u2 u4 : Writing) (all3 : List (List ℕ)) (h3 : List Deed) (W n pins : ℕ)
-    (f : FoundQuiet b w u1) (r : WasReset b u1 0 u2) (g3 : Grows 0 u2.history h3 (writes_of words (length words))) (p : Published W b (filled words all3 h3 u2) n u4) (told : pins ≡ p.count) where
+    (f : FoundQuiet b w u1) (r : WasReset b u1 0 u2) (g3 : Grows 0 u2.history h3 (writes_of words (length words))) (p : SeatPublished W b (filled words all3 h3 u2) n u4) (told : pins ≡ p.count) where
   whole : u4 ≡ writing_after_publish b p.count p.idle p.before (filled words all3 h3 (writing_after_reset b r.before (scanned_to (Some b) f.history w)))
   whole = p.is ∙ ap (λ (z : Writing). writing_after_publish b p.count p.idle p.before (filled words all3 h3 z)) (r.is ∙ ap (writing_after_reset b r.before) f.is)
 

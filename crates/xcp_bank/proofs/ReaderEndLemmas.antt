@@ -12,13 +12,13 @@ use Rattle.xcp_bank.specs.declared.taken.Taken.{Taken}
 use Rattle.xcp_bank.specs.declared.taken.Taken.TheVariants.{Same, Newer}
 use Rattle.pin_core.specs.State.{Reader, newcomer, opening}
 use Rattle.xcp_bank.specs.BankId.{bank_of}
-use Rattle.xcp_bank.specs.private.ReaderSteps.{UpToDate, Follows, GivesUp}
-use Rattle.xcp_bank.specs.Images.{image_of, images}
+use Rattle.xcp_bank.specs.private.ReaderSteps.{UpToDate, FollowsHistory, GivesUp}
+use Rattle.xcp_bank.specs.Images.{image_in_words, images}
 use mathlib.Core.List.{IsPrefix}
 use Rattle.xcp_bank.specs.SeatKnowledge.{AllBegin, Reading, Writing, Known, starting}
 use Rattle.xcp_bank.specs.private.SeatSplits.{when_joined, when_parted}
 use Rattle.xcp_bank.specs.PinHistory.{looked_at}
-use Rattle.xcp_bank.specs.private.SeatSteps.{IsWide, IsReaderSeat, Acquired, HasRead, buffer_of}
+use Rattle.xcp_bank.specs.private.SeatSteps.{IsWide, IsReaderSeat, SeatAcquired, HasRead, buffer_of}
 use Rattle.xcp_bank.specs.BankEnds.{ReaderEnd, reader_end, WriterEnd, writer_end, HoldsNumber, image_at, image_held, IsRun, AcquireDoes, FollowsTold, KnowsMore, ReadDoes, ReaderDoes, GivesBack, TellsTaken}
 use Rattle.xcp_bank.specs.EndFields.{reader_in, shown_reader}
 use Rattle.xcp_bank.specs.private.KeptEnds.{ReaderKept}
@@ -27,7 +27,7 @@ use Rattle.xcp_bank.proofs.ReaderSeatLemmas.{same≢newer, held_at}
 
 -- where a list of publications begins another, its images begin the other's images
 pub images_begin : (a b : List (List ℕ)) → IsPrefix a b → IsPrefix (images a) (images b)
-images_begin a b g = (images g.0, sym (map-append image_of a g.0) ∙ ap images g.1)
+images_begin a b g = (images g.0, sym (map-append image_in_words a g.0) ∙ ap images g.1)
 
 -- the same of several lists of publications that all begin one
 pub images_all : (ls : List (List (List ℕ))) (b : List (List ℕ)) → AllBegin ls b → AllBegin (map images ls) (images b)
@@ -39,15 +39,15 @@ pub shown_is : (token : Token (Unit {0}) Known) (bank : TableId) (r : ℕ) (y : 
 shown_is token bank r y s = ap (λ (z : ℕ × Reading). reader_end bank z.0 z.1) (reader_is token bank r y s)
 
 -- who knows all of the state that its history ends in knows what it holds there
-pub follows_up_to_date : (W r : ℕ) (y : Reading) → UpToDate W r y → Follows W r y
+pub follows_up_to_date : (W r : ℕ) (y : Reading) → UpToDate W r y → FollowsHistory W r y
 follows_up_to_date W r y k = record { state = k.state; ran = k.ran; held = ap (λ (z : Reader). z.held) k.pins; gone = ap (λ (z : Reader). z.gone) k.pins }
 
 -- a reader's history that is a run to a state in which it holds what it says is that for contracts, too
-pub run_of : (bank : TableId) (r : ℕ) (y : Reading) → Follows bank.slots r y → IsRun (reader_end bank r y)
+pub run_of : (bank : TableId) (r : ℕ) (y : Reading) → FollowsHistory bank.slots r y → IsRun (reader_end bank r y)
 run_of bank r y k = record { state = k.state; ran = k.ran; holds = k.held }
 
 -- and who has made no step
-pub follows_starting : (W : ℕ) (words : List ℕ) (r : ℕ) → length words ≡ W → Follows W r (starting words)
+pub follows_starting : (W : ℕ) (words : List ℕ) (r : ℕ) → length words ≡ W → FollowsHistory W r (starting words)
 follows_starting W words r size = record { state = opening words; ran = (words, size, (refl, refl)); held = ap (λ (z : Reader). z.held) (newcomers 6 r); gone = ap (λ (z : Reader). z.gone) (newcomers 6 r) }
   where
     newcomers : (n q : ℕ) → get_or (replicate n newcomer) q newcomer ≡ newcomer
@@ -56,7 +56,7 @@ follows_starting W words r size = record { state = opening words; ran = (words, 
     newcomers (suc n) (suc q) = newcomers n q
 
 -- what is kept once a reader has acquired
-pub acquired_kept : (token : Token (Unit {0}) Known) (bank : TableId) (r b : ℕ) (x y : Reading) (taken : Taken) → IsReaderSeat token bank r y → Acquired taken b bank.slots r x y → ReaderKept bank (Some b) (Some token)
+pub acquired_kept : (token : Token (Unit {0}) Known) (bank : TableId) (r b : ℕ) (x y : Reading) (taken : Taken) → IsReaderSeat token bank r y → SeatAcquired taken b bank.slots r x y → ReaderKept bank (Some b) (Some token)
 acquired_kept token bank r b x y taken s a = kept_by token bank r y (Some b) s (follows_up_to_date bank.slots r y a.up_to_date) a.here (sym (ap buffer_of a.held)) (λ c e. subst (λ (n : ℕ). n < 8) (same_Some b c e) a.low)
 
 -- What `acquire` says.
@@ -75,17 +75,17 @@ module _ (bank : TableId) (r : ℕ) (x y : Reading) where
   abbrev new : ReaderEnd
   new = reader_end bank r y
 
-  same_where : (taken : Taken) (b : ℕ) → Acquired taken b bank.slots r x y → taken ≡ Same ↔ HoldsNumber old (length y.list - 1)
+  same_where : (taken : Taken) (b : ℕ) → SeatAcquired taken b bank.slots r x y → taken ≡ Same ↔ HoldsNumber old (length y.list - 1)
   same_where Same b a = ((λ _. (b, a.same refl)), λ _. refl)
   same_where Newer b a = ((λ e. absurd (same≢newer (sym e))), λ h. (let n = a.newer refl h.0 (length y.list - 1) h.1 in let s = a.some in absurd (omega arith)))
 
-  newer_where : (taken : Taken) (b : ℕ) → Acquired taken b bank.slots r x y → taken ≡ Newer ↔ ((c p : ℕ) → x.pins.held ≡ Some (c, p) → p < length y.list - 1)
+  newer_where : (taken : Taken) (b : ℕ) → SeatAcquired taken b bank.slots r x y → taken ≡ Newer ↔ ((c p : ℕ) → x.pins.held ≡ Some (c, p) → p < length y.list - 1)
   newer_where Same b a = ((λ e. absurd (same≢newer e)), λ h. (let n = h b (length y.list - 1) (a.same refl) in absurd (omega arith)))
   newer_where Newer b a = ((λ _ c p e. (let n = a.newer refl c p e in omega arith)), λ _. refl)
 
-  pub acquired_end : (taken : Taken) (b : ℕ) → Acquired taken b bank.slots r x y → AcquiredEnd taken (reader_end bank r x) (reader_end bank r y)
+  pub acquired_end : (taken : Taken) (b : ℕ) → SeatAcquired taken b bank.slots r x y → AcquiredEnd taken (reader_end bank r x) (reader_end bank r y)
   acquired_end taken b a =
-      let long : length y.list ≡ length (images y.list) = sym (length-map y.list image_of) in
+      let long : length y.list ≡ length (images y.list) = sym (length-map y.list image_in_words) in
       let some = a.some in
       record {
         holds_the_last = (b, a.held ∙ ap (λ (n : ℕ). Some (b, n - 1)) long);
@@ -105,8 +105,8 @@ module _ (bank : TableId) (r : ℕ) (x y : Reading) where
       }
 
 -- the image that is held is the image of the publication with its number
-pub image_held_is : (bank : TableId) (r : ℕ) (x : Reading) (b p : ℕ) → x.pins.held ≡ Some (b, p) → image_held (reader_end bank r x) ≡ image_of (get_or x.list p [])
-image_held_is bank r x b p e = ap (λ (h : Option (ℕ × ℕ)). image_at h (images x.list)) e ∙ get_or-map image_of x.list p []
+pub image_held_is : (bank : TableId) (r : ℕ) (x : Reading) (b p : ℕ) → x.pins.held ≡ Some (b, p) → image_held (reader_end bank r x) ≡ image_in_words (get_or x.list p [])
+image_held_is bank r x b p e = ap (λ (h : Option (ℕ × ℕ)). image_at h (images x.list)) e ∙ get_or-map image_in_words x.list p []
 
 -- the seat of a reader that holds a buffer
 pub holding : (bank bank' : TableId) (held : Option ℕ) (seat : Option (Token (Unit {0}) Known)) → ReaderKept bank held seat → (token : Token (Unit {0}) Known) (buffer : ℕ) → seat ≡ Some token → held ≡ Some buffer → bank' ≡ bank
@@ -135,7 +135,7 @@ there l p some = dite (dec_le (length l) p)
     (λ below. omega arith)
 
 -- n Reads from word k on of a held image leave the reader as `read` and `number` say, if its history was a run
-pub read_end : (bank : TableId) → IsWide bank → (r k n b p : ℕ) (x y : Reading) → x.pins.held ≡ Some (b, p) → Follows bank.slots r x → HasRead k n p bank.slots r x y → ReadEnd k n (reader_end bank r x) (reader_end bank r y)
+pub read_end : (bank : TableId) → IsWide bank → (r k n b p : ℕ) (x y : Reading) → x.pins.held ≡ Some (b, p) → FollowsHistory bank.slots r x → HasRead k n p bank.slots r x y → ReadEnd k n (reader_end bank r x) (reader_end bank r y)
 read_end bank wide r k n b p x y holds follows g =
     let seen : images y.list ≡ images x.list = ap images g.list in
     record {
@@ -154,7 +154,7 @@ read_end bank wide r k n b p x y holds follows g =
         whole = subst (λ (l : List ℕ). length l ≡ 8 * (bank.slots - 1)) (sym (image_held_is bank r x b p holds)) (image_length bank.slots (get_or x.list p []) (g.numbered some).size);
       };
       known = λ some c q e. (
-          let long : length (images y.list) ≡ length x.list = ap length seen ∙ length-map x.list image_of in
+          let long : length (images y.list) ≡ length x.list = ap length seen ∙ length-map x.list image_in_words in
           let below : p < length x.list = there x.list p (let size = (g.numbered some).size in let w = wide.some in omega arith) in
           let q_is : p ≡ q = ap (λ (h : ℕ × ℕ). h.1) (same_Some (b, p) (c, q) (sym holds ∙ e)) in
           omega arith
@@ -162,7 +162,7 @@ read_end bank wide r k n b p x y holds follows g =
     }
 
 -- what a reader is told leaves what it holds
-pub follows_told : (W r : ℕ) (x : Reading) (w : Writing) → Follows W r x → Follows W r (when_parted w r (when_joined w r x))
+pub follows_told : (W r : ℕ) (x : Reading) (w : Writing) → FollowsHistory W r x → FollowsHistory W r (when_parted w r (when_joined w r x))
 follows_told W r x w k = record { state = k.state; ran = k.ran; held = k.held; gone = k.gone }
 
 -- What `tell` says.

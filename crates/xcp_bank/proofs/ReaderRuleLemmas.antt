@@ -8,29 +8,29 @@ use native.Mathlib.Decide.{ℕ_discrete}
 use mathlib.Core.Option.{some}
 use lib.ListN.{get_elem?}
 use Rattle.atomic_table.specs.Table.{State, Step, keeps, Allows}
-use Rattle.pin_core.specs.State.{Reader, Writer, PinState, newcomer, reader, leavings_of, published, publication}
+use Rattle.pin_core.specs.State.{Reader, Writer, PinState, newcomer, reader, leavings_of, published, publication_at}
 use Rattle.pin_core.specs.Effects.{looking, after_look, CanPin, pinning, after_pin, CanUnpin, leaving, after_unpin}
 use Rattle.pin_core.specs.StateInvariant.{Lawful, holders, at_buffer}
 use Rattle.pin_core.proofs.HolderCountLemmas.{same_sum, at_other}
 use Rattle.pin_core.proofs.ReaderStepLemmas.{look_keeps, pin_keeps, unpin_keeps}
 use mathlib.Core.List.{IsPrefix}
 use Rattle.xcp_bank.specs.SeatKnowledge.{Reading, Known, one_reader}
-use Rattle.xcp_bank.specs.TableRule.{Shows, IsNumbered, Stands, Records, Banked, IsBank}
+use Rattle.xcp_bank.specs.TableRule.{Shows, IsNumbered, StandsFor, RecordsReader, Banked, IsBank}
 use Rattle.xcp_bank.specs.private.ReaderSteps.{Seat, reader_plays, Finds, Pinned, reading_after_pin, Looked, reading_after_look, Unpinned, GivesUp, reading_after_unpin, ReadAt, reading_after_read}
 use Rattle.xcp_bank.proofs.PrefixLemmas.{all_again}
 use Rattle.xcp_bank.proofs.OtherSeatLemmas.{seat_step}
 use Rattle.pin_core.specs.Steps.{Steps}
-use Rattle.pin_core.specs.State.{words_of}
+use Rattle.pin_core.specs.State.{words_of_buffer}
 use Rattle.pin_core.specs.declared.events.Seen.TheVariants as an
 use Rattle.xcp_bank.specs.PinHistory.{Deed, doer, Grows, looked_at, pinned_at, given_up, has_read}
 use Rattle.pin_core.specs.Steps.{Runs}
 use Rattle.pin_core.specs.State.{opening}
-use Rattle.xcp_bank.specs.PinHistory.{events_of, answers_of}
-use Rattle.xcp_bank.specs.private.ReaderSteps.{UpToDate, Reaches, Follows}
+use Rattle.xcp_bank.specs.PinHistory.{deed_events, answers_of}
+use Rattle.xcp_bank.specs.private.ReaderSteps.{UpToDate, Reaches, FollowsHistory}
 use Rattle.xcp_bank.proofs.HistoryLemmas.{grows_none, begins_more, runs_more}
 
 -- what a reader has seen begins what is published
-pub stands_begins : (s : PinState) (own : ℕ → ℕ) (id r : ℕ) (x : Reading) → Stands s own id r x → IsPrefix x.list s.writer.publications
+pub stands_begins : (s : PinState) (own : ℕ → ℕ) (id r : ℕ) (x : Reading) → StandsFor s own id r x → IsPrefix x.list s.writer.publications
 stands_begins s own id r x mine =
     let rest : List (List ℕ) = drop x.pins.seen s.writer.publications in
     (rest, ap (λ (l : List (List ℕ)). l ++ rest) mine.list ∙ take-append-drop x.pins.seen s.writer.publications)
@@ -49,7 +49,7 @@ module _ (W : ℕ) (t : State (Unit {0}) Known) (b : Banked W t) (id r : ℕ) (x
   reached = let k = (b.recorded id (one_reader r x) at).0 in record { grows = k.grows; heard = k.heard }
 
   -- and what it keeps then
-  pub records_next : (d : Deed) (y : Reading) → y.history ≡ b.history ++ d ∷ [] → y.pending ≡ [] → y.heard ≡ x.heard → Records (b.history ++ d ∷ []) r y
+  pub records_next : (d : Deed) (y : Reading) → y.history ≡ b.history ++ d ∷ [] → y.pending ≡ [] → y.heard ≡ x.heard → RecordsReader (b.history ++ d ∷ []) r y
   records_next d y history pending heard = record {
     grows = subst (λ (l : List Deed). Grows (suc r) y.history (b.history ++ d ∷ []) l) (sym pending)
         (subst (λ (l : List Deed). Grows (suc r) l (b.history ++ d ∷ []) []) (sym history) (grows_none (suc r) (b.history ++ d ∷ [])));
@@ -65,7 +65,7 @@ module _ (W : ℕ) (t : State (Unit {0}) Known) (b : Banked W t) where
       → Banked W record { words = set t.words 0 ((get_or t.words 0 0 + 1) % 18446744073709551616); homes = t.homes; views = set t.views id (one_reader r (reading_after_pin r x b.core.index b.core.writer.publications b.history)) }
   pin_step id r x at here free =
       let s = b.core in
-      let mine : Stands s b.own id r x = (b.readers id (one_reader r x) at).0 in
+      let mine : StandsFor s b.own id r x = (b.readers id (one_reader r x) at).0 in
       let law = b.lawful in
       let inside : r < length s.readers = (let l = law.sizes.seats in let i = mine.inside in omega arith) in
       let can : CanPin s r = (mine.inside, ap (λ (y : Reader). y.gone) mine.pins ∙ here, ap (λ (y : Reader). y.held) mine.pins ∙ free) in
@@ -129,10 +129,10 @@ module _ (W : ℕ) (t : State (Unit {0}) Known) (b : Banked W t) where
   }
 
   -- what the reader knows then is true of the state that is reached
-  pub follows_by : (id r : ℕ) (y : Reading) (d : Deed) (u : PinState) → Steps W b.core d.0 d.1 u → y.history ≡ b.history ++ d ∷ [] → reader u r ≡ y.pins → Follows W r y
+  pub follows_by : (id r : ℕ) (y : Reading) (d : Deed) (u : PinState) → Steps W b.core d.0 d.1 u → y.history ≡ b.history ++ d ∷ [] → reader u r ≡ y.pins → FollowsHistory W r y
   follows_by id r y d u step history pins = record {
     state = u;
-    ran = (b.first, b.wide, subst (λ (h : List Deed). Runs W (opening b.first) (events_of h) (answers_of h) u) (sym history) (runs_more W (opening b.first) b.core u b.history d b.run step));
+    ran = (b.first, b.wide, subst (λ (h : List Deed). Runs W (opening b.first) (deed_events h) (answers_of h) u) (sym history) (runs_more W (opening b.first) b.core u b.history d b.run step));
     held = ap (λ (z : Reader). z.held) pins;
     gone = ap (λ (z : Reader). z.gone) pins;
   }
@@ -140,7 +140,7 @@ module _ (W : ℕ) (t : State (Unit {0}) Known) (b : Banked W t) where
   pub shown_by : (id r : ℕ) (y : Reading) (d : Deed) (u : PinState) → Steps W b.core d.0 d.1 u → y.history ≡ b.history ++ d ∷ [] → u.index ≡ y.pins.looked → u.writer.publications ≡ y.list → reader u r ≡ y.pins → UpToDate W r y
   shown_by id r y d u step history index list pins = record {
     state = u;
-    ran = (b.first, b.wide, subst (λ (h : List Deed). Runs W (opening b.first) (events_of h) (answers_of h) u) (sym history) (runs_more W (opening b.first) b.core u b.history d b.run step));
+    ran = (b.first, b.wide, subst (λ (h : List Deed). Runs W (opening b.first) (deed_events h) (answers_of h) u) (sym history) (runs_more W (opening b.first) b.core u b.history d b.run step));
     index = index;
     list = list;
     pins = pins;
@@ -150,7 +150,7 @@ module _ (W : ℕ) (t : State (Unit {0}) Known) (b : Banked W t) where
       → Pinned W r x (get_or t.words 0 0) (reading_after_pin r x b.core.index b.core.writer.publications b.history)
   pin_tells id r x at here free =
       let s = b.core in
-      let mine : Stands s b.own id r x = (b.readers id (one_reader r x) at).0 in
+      let mine : StandsFor s b.own id r x = (b.readers id (one_reader r x) at).0 in
       let inside : r < length s.readers = (let l = b.lawful.sizes.seats in let i = mine.inside in omega arith) in
       let can : CanPin s r = (mine.inside, ap (λ (y : Reader). y.gone) mine.pins ∙ here, ap (λ (y : Reader). y.held) mine.pins ∙ free) in
       let gone_same : (reader s r).gone ≡ x.pins.gone = ap (λ (y : Reader). y.gone) mine.pins in
@@ -201,7 +201,7 @@ module _ (W : ℕ) (t : State (Unit {0}) Known) (b : Banked W t) (id r : ℕ) (x
   abbrev s : PinState
   s = b.core
 
-  mine : Stands b.core b.own id r x
+  mine : StandsFor b.core b.own id r x
   mine = (b.readers id (one_reader r x) at).0
 
   inside : r < length b.core.readers
@@ -209,9 +209,9 @@ module _ (W : ℕ) (t : State (Unit {0}) Known) (b : Banked W t) (id r : ℕ) (x
 
   -- a step that changes no word, and of the reader neither what it holds nor whether it is gone
   pub plain_step : (i : ℕ) (y : Reading) (u : PinState) → Lawful W u → Shows W t.words u
-      → Stands u b.own id r y
+      → StandsFor u b.own id r y
       → ((q : ℕ) → q ≢ r → reader u q ≡ reader b.core q) → u.writer ≡ b.core.writer → u.index ≡ b.core.index → u.words ≡ b.core.words → ((c : ℕ) → holders c u.readers ≡ holders c b.core.readers)
-      → (d : Deed) → Steps W b.core d.0 d.1 u → Records (b.history ++ d ∷ []) r y → doer d.0 ≡ suc r
+      → (d : Deed) → Steps W b.core d.0 d.1 u → RecordsReader (b.history ++ d ∷ []) r y → doer d.0 ≡ suc r
       → Banked W record { words = set t.words i (get_or t.words i 0); homes = t.homes; views = set t.views id (one_reader r y) }
   plain_step i y u law shows stands others same index words held d step records doer_is =
       seat_step W t b id (one_reader r y) (set t.words i (get_or t.words i 0)) u law
@@ -260,7 +260,7 @@ module _ (W : ℕ) (t : State (Unit {0}) Known) (b : Banked W t) (id r : ℕ) (x
   }
 
   -- the word of the table is the word of the buffer
-  shown : (i c p k : ℕ) → x.pins.held ≡ Some (c, p) → k < W → i ≡ 9 + (c * W + k) → get_or t.words i 0 ≡ get_or (words_of s c) k 0
+  shown : (i c p k : ℕ) → x.pins.held ≡ Some (c, p) → k < W → i ≡ 9 + (c * W + k) → get_or t.words i 0 ≡ get_or (words_of_buffer s c) k 0
   shown i c p k holds low place = ap (λ (z : ℕ). get_or t.words z 0) place ∙ b.shows.image c k (b.lawful.keeps r c p (ap (λ (y : Reader). y.held) mine.pins ∙ holds)).buffer low
 
   -- a step that reads
@@ -270,7 +270,7 @@ module _ (W : ℕ) (t : State (Unit {0}) Known) (b : Banked W t) (id r : ℕ) (x
       (records_next W t b id r x at (has_read r k (get_or t.words i 0)) (reading_after_read r k (get_or t.words i 0) b.history x) refl refl refl) refl
 
   -- the publication that is held is one of those that it has seen, and it is the publication with that number
-  held_seen : (c p : ℕ) → x.pins.held ≡ Some (c, p) → (p < x.pins.seen) × (p < published s) × (publication s p ≡ get_or x.list p [])
+  held_seen : (c p : ℕ) → x.pins.held ≡ Some (c, p) → (p < x.pins.seen) × (p < published s) × (publication_at s p ≡ get_or x.list p [])
   held_seen c p e =
       let h = (b.lawful.seen r).held c p (ap (λ (y : Reader). y.held) mine.pins ∙ e) in
       let m = (b.lawful.seen r).most in

@@ -8,10 +8,10 @@ use Rattle.xcp_bank.specs.TableRule.{IsNumbered}
 use mathlib.Core.List.{IsPrefix}
 use Rattle.xcp_bank.specs.SeatKnowledge.{AllBegin, Reading, Known, one_reader}
 use Rattle.xcp_bank.specs.PinHistory.{Deed, Grows, Does, has_read, reads_of, looked_at, pinned_at, given_up}
-use Rattle.xcp_bank.specs.private.ReaderSteps.{Seat, reader_plays, Finds, GivesUp, UpToDate, Follows, reading_after_unpin}
+use Rattle.xcp_bank.specs.private.ReaderSteps.{Seat, reader_plays, Finds, GivesUp, UpToDate, FollowsHistory, reading_after_unpin}
 use Rattle.xcp_bank.specs.declared.taken.Taken.{Taken}
 use Rattle.xcp_bank.specs.declared.taken.Taken.TheVariants.{Same, Newer}
-use Rattle.xcp_bank.specs.private.SeatSteps.{IsReaderSeat, HasRead, WordRead, buffer_of, LookedAt, PinnedAt, Acquired}
+use Rattle.xcp_bank.specs.private.SeatSteps.{IsReaderSeat, HasRead, WordRead, buffer_of, LookedAt, PinnedAt, SeatAcquired}
 use Rattle.xcp_bank.proofs.PrefixLemmas.{begins_again, all_again, begins_length}
 use Rattle.xcp_bank.proofs.HistoryLemmas.{does_step, does_again, does_none, reads_more, begins_more}
 
@@ -48,10 +48,10 @@ pub same≢newer : Same ≢ Newer
 same≢newer e = subst IsSame e tt
 
 -- nothing was held: a Pin
-pub acquired_first : (W r : ℕ) (x y : Reading) (buffer : ℕ) → x.pins.gone ≡ false → x.pins.held ≡ None → PinnedAt buffer W r x y → Acquired Newer buffer W r x y
+pub acquired_first : (W r : ℕ) (x y : Reading) (buffer : ℕ) → x.pins.gone ≡ false → x.pins.held ≡ None → PinnedAt buffer W r x y → SeatAcquired Newer buffer W r x y
 acquired_first W r x y buffer here free p =
     let k = p.1 in let some = k.finds.some in
-    subst (λ (i : ℕ). Acquired Newer i W r x y) (sym p.2) (subst (Acquired Newer k.index W r x) (sym k.is) record {
+    subst (λ (i : ℕ). SeatAcquired Newer i W r x y) (sym p.2) (subst (SeatAcquired Newer k.index W r x) (sym k.is) record {
       low = k.finds.buffer;
       some = some;
       begins = k.finds.begins;
@@ -75,13 +75,13 @@ acquired_first W r x y buffer here free p =
     })
 
 -- what was held is current: a Look
-pub acquired_same : (W r : ℕ) (x y : Reading) (buffer p : ℕ) → x.pins.gone ≡ false → x.pins.held ≡ Some (buffer, p) → LookedAt buffer W r x y → Acquired Same buffer W r x y
+pub acquired_same : (W r : ℕ) (x y : Reading) (buffer p : ℕ) → x.pins.gone ≡ false → x.pins.held ≡ Some (buffer, p) → LookedAt buffer W r x y → SeatAcquired Same buffer W r x y
 acquired_same W r x y buffer p here holds l =
     let k = l.1 in let at : buffer ≡ k.index = l.2 in
     let newest = k.current buffer p holds at in
     let number : p ≡ length k.list - 1 = omega arith in
     let low = k.finds.buffer in
-    subst (Acquired Same buffer W r x) (sym k.is) record {
+    subst (SeatAcquired Same buffer W r x) (sym k.is) record {
       low = omega arith;
       some = k.finds.some;
       begins = k.finds.begins;
@@ -105,7 +105,7 @@ acquired_same W r x y buffer p here holds l =
     }
 
 -- another buffer is current: a Look, an Unpin and a Pin
-pub acquired_other : (W r : ℕ) (x y z u : Reading) (other old buffer p : ℕ) → x.pins.gone ≡ false → x.pins.held ≡ Some (old, p) → LookedAt other W r x y → old ≢ other → GivesUp W false r y z → PinnedAt buffer W r z u → Acquired Newer buffer W r x u
+pub acquired_other : (W r : ℕ) (x y z u : Reading) (other old buffer p : ℕ) → x.pins.gone ≡ false → x.pins.held ≡ Some (old, p) → LookedAt other W r x y → old ≢ other → GivesUp W false r y z → PinnedAt buffer W r z u → SeatAcquired Newer buffer W r x u
 acquired_other W r x y z u other old buffer p here holds l ne v m =
     let g = l.1 in
     let m' : PinnedAt buffer W r (reading_after_unpin r false v.before y) u = subst (λ (a : Reading). PinnedAt buffer W r a u) v.is m in
@@ -125,7 +125,7 @@ acquired_other W r x y z u other old buffer p here holds l ne v m =
     let did_both = does_again (suc r) x.history x.pending h [] (v.before ++ given_up r false ∷ []) [] (looked_at r g.index ∷ []) (given_up r false ∷ []) did_look did_unpin in
     let gone_is : y.pins.gone ≡ x.pins.gone = ap (λ (v : Reading). v.pins.gone) g.is in
     let heard_is : y.heard ≡ x.heard = ap (λ (v : Reading). v.heard) g.is in
-    subst (λ (i : ℕ). Acquired Newer i W r x u) (sym m'.2) (subst (Acquired Newer k.index W r x) (sym k.is) record {
+    subst (λ (i : ℕ). SeatAcquired Newer i W r x u) (sym m'.2) (subst (SeatAcquired Newer k.index W r x) (sym k.is) record {
       low = k.finds.buffer;
       some = some;
       begins = begins_again x.list g.list k.list g.finds.begins begins;
@@ -175,7 +175,7 @@ read_more W r x y z from n m p k v g w at next =
       list = g.list;
       past = g.past;
       heard_is = g.heard_is;
-      follows = λ _. subst (Follows W r) w.is w.follows;
+      follows = λ _. subst (FollowsHistory W r) w.is w.follows;
       numbered = λ _. subst (λ (l : List (List ℕ)). IsNumbered W p (get_or l p [])) g.list w.numbered;
       pasts = λ _. subst (λ (l : List (List ℕ)). AllBegin x.past l) g.list (subst (λ (ls : List (List (List ℕ))). AllBegin ls y.list) g.past w.pasts);
       heard = λ _. subst (λ (l : List Deed). IsPrefix l h) g.heard_is (begins_more y.heard w.before (has_read r k v) w.reaches.heard);

@@ -7,7 +7,7 @@ use Rattle.xcp_bank.specs.PinHistory.{Deed, Grows, has_scanned}
 use Rattle.xcp_bank.specs.HeldBufferCount.{others, scanned_buffer, scan_of, unquiet}
 use Rattle.xcp_bank.specs.SeatKnowledge.{Writing}
 use Rattle.xcp_bank.specs.private.WriterSteps.{Scanned, writing_after_scan}
-use Rattle.xcp_bank.specs.private.SeatSteps.{Counted, Rests, scanned_to}
+use Rattle.xcp_bank.specs.private.SeatSteps.{HeldCounted, Rests, scanned_to}
 use Rattle.xcp_bank.specs.BankEnds.{writer_end, HeldDoes}
 use Rattle.xcp_bank.proofs.HistoryLemmas.{grows_none, grows_act}
 
@@ -22,14 +22,14 @@ others_more current b ne =
     ap (others current) next ∙ ap (λ (t : Bool). cond t (others current b) (others current b ++ b ∷ [])) (ne_eqb b current ne)
 
 -- before the first Scan no buffer has been counted, none is found held, and the writer is as it was
-pub counted_none : (W : ℕ) (w : Writing) → Counted 0 0 W w w
+pub counted_none : (W : ℕ) (w : Writing) → HeldCounted 0 0 W w w
 counted_none W w = record { quiet = w.pins.quiet; history = w.history; is = refl; found = []; each = refl; grows = grows_none 0 w.history; held_is = refl; long = omega arith; ahead = (λ l. refl); behind = (λ l. absurd (omega arith)); most = omega arith; fewer = (λ l. absurd (omega arith)); up_to_date = (λ l. absurd (omega arith)) }
 
-module _ (W : ℕ) (w : Writing) (current : ℕ) (started : List ℕ) (rests : Rests current started w) (b held : ℕ) (u : Writing) (s : Counted b held W w u) where
+module _ (W : ℕ) (w : Writing) (current : ℕ) (started : List ℕ) (rests : Rests current started w) (b held : ℕ) (u : Writing) (s : HeldCounted b held W w u) where
   pub counted_few : b < 8 → held < 8
   counted_few low = let l = s.long in let m = s.most in omega arith
 
-  pub counted_skip : b ≡ current → Counted (b + 1) held W w u
+  pub counted_skip : b ≡ current → HeldCounted (b + 1) held W w u
   counted_skip is =
       let here : b ≡ w.current = is ∙ sym rests.current_is in
       let ne : w.idle ≢ b = λ e. rests.apart (e ∙ here) in
@@ -77,7 +77,7 @@ module _ (W : ℕ) (w : Writing) (current : ℕ) (started : List ℕ) (rests : R
     started_is = ap (λ (l : List ℕ). get_or l b 0) rests.started_is
 
     -- how many there are then, of which this one adds `more`
-    counted_more : (more : ℕ) → unquiet w.pins.started (b, n) ≡ more → more ≤ 1 → (more ≡ 1 → w.idle ≢ b) → Counted (b + 1) (held + more) W w v
+    counted_more : (more : ℕ) → unquiet w.pins.started (b, n) ≡ more → more ≤ 1 → (more ≡ 1 → w.idle ≢ b) → HeldCounted (b + 1) (held + more) W w v
     counted_more more is few other =
         let long = s.long in let long' = longer in let most = s.most in let apart' = ne in
         record {
@@ -99,13 +99,13 @@ module _ (W : ℕ) (w : Writing) (current : ℕ) (started : List ℕ) (rests : R
         fewer_then : (m k e : ℕ) → w.idle < b + 1 → k ≡ m + 1 → held ≤ m → e ≤ 1 → (e ≡ 1 → w.idle ≢ b) → (w.idle < b → held + 1 ≤ m) → (held + e) + 1 ≤ k
         fewer_then m k e l is le few other f = grind arith
 
-    pub counted_quiet : n ≡ get_or started b 0 → Counted (b + 1) held W w v
+    pub counted_quiet : n ≡ get_or started b 0 → HeldCounted (b + 1) held W w v
     counted_quiet same =
         let none : unquiet w.pins.started (b, n) ≡ 0 = ap (λ (t : Bool). cond t 0 1) (eq-eqb (get_or w.pins.started b 0) n (started_is ∙ sym same)) in
         let is : held + 0 ≡ held = omega arith in
-        subst (λ (m : ℕ). Counted (b + 1) m W w v) is (counted_more 0 none (omega arith) (λ e. absurd (omega arith)))
+        subst (λ (m : ℕ). HeldCounted (b + 1) m W w v) is (counted_more 0 none (omega arith) (λ e. absurd (omega arith)))
 
-    pub counted_held : n ≢ get_or started b 0 → Counted (b + 1) (held + 1) W w v
+    pub counted_held : n ≢ get_or started b 0 → HeldCounted (b + 1) (held + 1) W w v
     counted_held other =
         let one : unquiet w.pins.started (b, n) ≡ 1 = ap (λ (t : Bool). cond t 0 1) (ne_eqb (get_or w.pins.started b 0) n (λ e. other (sym e ∙ started_is))) in
         let found_is : get_or u.pins.started b 0 ≡ get_or w.pins.started b 0 = ap (λ (z : Writing). get_or z.pins.started b 0) s.is in
@@ -113,7 +113,7 @@ module _ (W : ℕ) (w : Writing) (current : ℕ) (started : List ℕ) (rests : R
         counted_more 1 one (omega arith) (λ e i. other (sym (g.found (sym i ∙ sym idle_is)) ∙ (found_is ∙ started_is)))
 
 -- The seven are counted.
-module _ (bank : TableId) (w : Writing) (current : ℕ) (started : List ℕ) (rests : Rests current started w) (held : ℕ) (u : Writing) (k : Counted 8 held bank.slots w u) where
+module _ (bank : TableId) (w : Writing) (current : ℕ) (started : List ℕ) (rests : Rests current started w) (held : ℕ) (u : Writing) (k : HeldCounted 8 held bank.slots w u) where
   pub rests_still : Rests current started u
   rests_still = subst (Rests current started) (sym k.is) record { current_is = rests.current_is; started_is = rests.started_is; low = rests.low; building = rests.building; idle = rests.idle; apart = rests.apart }
 

@@ -9,7 +9,7 @@ use Rattle.pin_core.specs.StateInvariant.{Lawful, holders}
 use Rattle.pin_core.specs.Steps.{Steps, Runs}
 use Rattle.pin_core.proofs.OpeningLaws.{opening_lawful}
 use Rattle.pin_core.proofs.StepLaws.{run_keeps}
-use Rattle.xcp_bank.specs.PinHistory.{Deed, events_of, answers_of, Ran, has_scanned}
+use Rattle.xcp_bank.specs.PinHistory.{Deed, deed_events, answers_of, Ran, has_scanned}
 use Rattle.xcp_bank.proofs.HistoryLemmas.{head_same}
 use Rattle.xcp_bank.proofs.LookLaws.{runs_split}
 
@@ -38,7 +38,7 @@ module _ (W : ℕ) (some : 0 < W) (few : W ≤ 131073) where
   lawful_then history s r =
       let wide : length r.0 ≡ W = r.1 in
       let opens : Lawful W (opening r.0) = subst (λ (n : ℕ). Lawful n (opening r.0)) wide (opening_lawful r.0 (omega arith) (omega arith)) in
-      run_keeps W (opening r.0) s (events_of history) (answers_of history) opens r.2
+      run_keeps W (opening r.0) s (deed_events history) (answers_of history) opens r.2
 
   -- right after a Scan that told n its buffer isn't current, and its started count is n plus the number of its holders
   pub scans_tell : (front : List Deed) (b n : ℕ) (s : PinState) → Ran W (front ++ has_scanned b n ∷ []) s → (b ≢ s.index) × (started_of s b ≡ n + holders b s.readers)

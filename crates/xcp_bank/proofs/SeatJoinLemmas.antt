@@ -13,7 +13,7 @@ use Rattle.pin_core.proofs.ReaderStepLemmas.{look_keeps}
 use mathlib.Core.List.{IsPrefix}
 use Rattle.xcp_bank.specs.SeatKnowledge.{AllBegin, Reading, Writing, Known, one_reader, nobody}
 use Rattle.xcp_bank.specs.private.Everybody.{the_writer}
-use Rattle.xcp_bank.specs.TableRule.{Shows, Stands, StandsForAll, Leads, Banked, IsBank}
+use Rattle.xcp_bank.specs.TableRule.{Shows, StandsFor, StandsForAll, Leads, Banked, IsBank}
 use Rattle.xcp_bank.specs.private.SeatSplits.{when_joined, when_parted, together, writer_alone, readers_apart, both_of}
 use Rattle.xcp_bank.proofs.PrefixLemmas.{all_again}
 use Rattle.xcp_bank.proofs.ReaderRuleLemmas.{stands_begins, same_suc, writes_none}
@@ -26,7 +26,7 @@ use Rattle.xcp_bank.proofs.HistoryLemmas.{runs_more, records_still, grows_own, g
 use Rattle.xcp_bank.proofs.SeatSplitLemmas.{at_end, moved_to, moved_here, moved_else}
 
 -- a Look of the reader r, whose seat is then m
-module _ (W : ℕ) (t : State (Unit {0}) Known) (b : Banked W t) (id r m : ℕ) (x : Reading) (w : Writing) (mine : Stands b.core b.own id r x) (here : x.pins.gone ≡ false) (leads : Leads b.core w) where
+module _ (W : ℕ) (t : State (Unit {0}) Known) (b : Banked W t) (id r m : ℕ) (x : Reading) (w : Writing) (mine : StandsFor b.core b.own id r x) (here : x.pins.gone ≡ false) (leads : Leads b.core w) where
   abbrev s : PinState
   s = b.core
 
@@ -46,7 +46,7 @@ module _ (W : ℕ) (t : State (Unit {0}) Known) (b : Banked W t) (id r m : ℕ) 
   shows = record { size = b.shows.size; head = b.shows.head; left = b.shows.left; image = b.shows.image }
 
   -- what the reader knows then, whichever of its lists it calls past
-  stands_by : (y : Reading) → y.pins ≡ (when_joined w r x).pins → y.list ≡ w.pins.publications → AllBegin y.past y.list → Stands after own' m r y
+  stands_by : (y : Reading) → y.pins ≡ (when_joined w r x).pins → y.list ≡ w.pins.publications → AllBegin y.past y.list → StandsFor after own' m r y
   stands_by y pins list past =
       let z : Reader = looking s.index (published s) (reader s r) in
       let known : ◌≡◌ {A = Reader} (looking s.index (published s) x.pins) (when_joined w r x).pins = λ i. record { held = x.pins.held; looked = leads.current i; seen = length (leads.pins i).publications; gone = x.pins.gone } in
@@ -63,10 +63,10 @@ module _ (W : ℕ) (t : State (Unit {0}) Known) (b : Banked W t) (id r m : ℕ) 
   begins : IsPrefix x.list w.pins.publications
   begins = subst (λ (u : Writer). IsPrefix x.list u.publications) leads.pins (stands_begins s b.own id r x mine)
 
-  pub stands : Stands after own' m r (when_joined w r x)
+  pub stands : StandsFor after own' m r (when_joined w r x)
   stands = stands_by (when_joined w r x) refl refl (begins, all_again x.past x.list w.pins.publications mine.past begins)
 
-  pub stands_again : Stands after own' m r (when_parted w r x)
+  pub stands_again : StandsFor after own' m r (when_parted w r x)
   stands_again = stands_by (when_parted w r x) refl refl (all_again x.past x.list w.pins.publications mine.past begins)
 
   -- who stands for others still does
@@ -88,7 +88,7 @@ module _ (W : ℕ) (t : State (Unit {0}) Known) (b : Banked W t) (id r m : ℕ) 
 pub tell_joins : (W id other r : ℕ) (x : Reading) (w : Writing) → x.pins.gone ≡ false → Joins (Banked W) id (the_writer w) other (one_reader r x) (both_of w r (when_joined w r x)) nobody
 tell_joins W id other r x w here t b at apart there =
     let at' : get_elem? t.views other ≡ some (one_reader r x) = sym (set_else t.views id other (both_of w r (when_joined w r x)) apart) ∙ there in
-    let mine : Stands b.core b.own other r x = (b.readers other (one_reader r x) at').0 in
+    let mine : StandsFor b.core b.own other r x = (b.readers other (one_reader r x) at').0 in
     let lead = b.writer id (the_writer w) w at refl in
     let V = both_of w r (when_joined w r x) in
     let s' = after_look b.core r in
@@ -139,7 +139,7 @@ tell_joins W id other r x w here t b at apart there =
 pub tell_splits : (W id r : ℕ) (x : Reading) (w : Writing) → x.pins.gone ≡ false → Splits (Banked W) id (both_of w r x) (the_writer w) (one_reader r (when_parted w r x))
 tell_splits W id r x w here t b at =
     let m : ℕ = length (set t.views id (the_writer w)) in
-    let mine : Stands b.core b.own id r x = (b.readers id (both_of w r x) at).0 in
+    let mine : StandsFor b.core b.own id r x = (b.readers id (both_of w r x) at).0 in
     let lead = b.writer id (both_of w r x) w at refl in
     let V = the_writer w in
     let R = one_reader r (when_parted w r x) in

@@ -8,7 +8,7 @@ use Rattle.atomic_table.proofs.Lists.{at_set}
 use Rattle.pin_core.specs.State.{PinState, reader, published}
 use Rattle.xcp_bank.specs.SeatKnowledge.{Writing, Known, one_reader, starting}
 use Rattle.xcp_bank.specs.private.Everybody.{waiting, everybody}
-use Rattle.xcp_bank.specs.TableRule.{RecordsAll, Stands, StandsForAll, Leads, Banked, IsBank}
+use Rattle.xcp_bank.specs.TableRule.{RecordsAll, StandsFor, StandsForAll, Leads, Banked, IsBank}
 use Rattle.xcp_bank.specs.private.SeatSplits.{without_first, only_first}
 use Rattle.xcp_bank.proofs.OtherSeatLemmas.{stands_still, all_still}
 
@@ -46,7 +46,7 @@ cut_splits W id n words t b at =
     let own' : ℕ → ℕ = moved_to b.own n m in
     let mine = b.readers id (everybody (suc n) words) at in
     let below : (r : ℕ) → (reader s r).seen ≤ published s = λ r. (b.lawful.seen r).most in
-    let here : Stands s b.own id n (starting words) = mine.0 in
+    let here : StandsFor s b.own id n (starting words) = mine.0 in
     let kept : (j : ℕ) (u : Known) → get_elem? (set t.views id (everybody n words)) j ≡ some u → StandsForAll s own' j u.readers = λ j u e.
     ⊎_elim {A = (j ≡ id) × (everybody n words ≡ u)} {B = (j ≢ id) × (get_elem? t.views j ≡ some u)}
     (λ h. subst (λ (z : ℕ × Known). StandsForAll s own' z.0 z.1.readers) (λ i. (sym h.0 i, h.1 i)) (waiting_still s b.own id n m n words (omega arith) below mine.1))

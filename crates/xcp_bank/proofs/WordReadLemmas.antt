@@ -7,8 +7,8 @@ use Rattle.atomic_table.specs.Seated.{TableId}
 use Rattle.atomic_table.specs.declared.shared.Seat.{Seat as Token}
 use Rattle.pin_core.specs.State.{Reader}
 use Rattle.xcp_bank.specs.SeatKnowledge.{Reading, Known}
-use Rattle.xcp_bank.specs.Images.{image_of}
-use Rattle.xcp_bank.specs.private.SeatSteps.{IsReaderSeat, HasRead, ReaderMoves, WordReadAt, ReadsOn, bytes_in}
+use Rattle.xcp_bank.specs.Images.{image_in_words}
+use Rattle.xcp_bank.specs.private.SeatSteps.{IsReaderSeat, HasRead, ReaderMoves, WordReadAt, ReadsOn, bytes_of_table}
 use Rattle.std.proofs.lemmas.List.{length-take-le, length-drop, get_or-take, get_or-drop}
 use borrow.Rule.Slice.PartMut.{put_mid}
 use Rattle.xcp_bank.proofs.ImageLemmas.{image_byte}
@@ -28,7 +28,7 @@ module _ (bank : TableId) (buffer at : ℕ) where
   -- one word
   pub reads_one : (k word : ℕ) (s t : Token (Unit {0}) Known) (a b : List ℕ) → ReaderMoves (WordReadAt buffer k word) s t bank → length b ≡ length a
       → ((j : ℕ) → j < length a → (at + j) / 8 ≡ k → get_or b j 0 ≡ get_or (to_le_bytes w64 word) ((at + j) % 8) 0)
-      → ((j : ℕ) → (at + j) / 8 ≢ k → get_or b j 0 ≡ get_or a j 0) → at + length a ≤ bytes_in bank → ReadsOn bank buffer at k 1 s t a b
+      → ((j : ℕ) → (at + j) / 8 ≢ k → get_or b j 0 ≡ get_or a j 0) → at + length a ≤ bytes_of_table bank → ReadsOn bank buffer at k 1 s t a b
   reads_one k word s t a b moves size here other inside = record {
     size = size;
     elsewhere = (λ j o. other j (λ e. elim o [ inl l ↦ absurd (omega arith) | inr l ↦ absurd (omega arith) ]));
@@ -64,7 +64,7 @@ module _ (bank : TableId) (buffer at : ℕ) where
             (let i = moved r y p sits held in
             let size = f.size in
             g.there r i.0 p i.1 (ap (λ (z : Reader). z.held) i.2.pins ∙ held) j (omega arith) (omega arith) (omega arith)
-            ∙ ap (λ (list : List (List ℕ)). get_or (image_of (get_or list p [])) (at + j) 0) i.2.list)));
+            ∙ ap (λ (list : List (List ℕ)). get_or (image_in_words (get_or list p [])) (at + j) 0) i.2.list)));
         reads = (λ r x y p from l sits held h e.
             (let i = f.reads r x y p from l sits held h e in
             let still = ap (λ (z : Reader). z.held) (i.2.pins ∙ sym h.pins) ∙ held in
@@ -95,7 +95,7 @@ module _ (bank : TableId) (buffer at : ℕ) where
         there = (λ r y p sits held j l from to.
             (let same : 8 * k + (j - place) ≡ at + j = omega arith in
             in_part place size a b front new j (omega arith) (omega arith)
-            ∙ (g.there r y p sits held (j - place) (omega arith) (omega arith) (omega arith) ∙ ap (λ (m : ℕ). get_or (image_of (get_or y.list p [])) m 0) same)));
+            ∙ (g.there r y p sits held (j - place) (omega arith) (omega arith) (omega arith) ∙ ap (λ (m : ℕ). get_or (image_in_words (get_or y.list p [])) m 0) same)));
         reads = g.reads;
       }
 

@@ -4,7 +4,7 @@ use Rattle.std.proofs.lemmas.List.{map-append, length_push, get_or_push}
 use Rattle.atomic_table.specs.Seated.{TableId}
 use Rattle.atomic_table.specs.declared.shared.Seat.{Seat as Token}
 use Rattle.pin_core.specs.State.{Writer}
-use Rattle.xcp_bank.specs.Images.{image_of, images}
+use Rattle.xcp_bank.specs.Images.{image_in_words, images}
 use Rattle.xcp_bank.specs.SeatKnowledge.{Writing, Known}
 use Rattle.xcp_bank.specs.private.SeatSteps.{IsWriterSeat, Publishes}
 use Rattle.xcp_bank.specs.BankEnds.{WriterEnd, writer_end, newest, PublishDoes}
@@ -18,12 +18,12 @@ writer_shown token bank w d = ap (writer_end bank) (writer_is token bank w d)
 -- What `publish` says.
 pub record PublishedEnd (image : List ℕ) (old new : WriterEnd) : Type 0 where
   pub appended : new.publications ≡ old.publications ++ image ∷ []
-  pub does : (words : List ℕ) × (image_of words ≡ image) × PublishDoes words old new
+  pub does : (words : List ℕ) × (image_in_words words ≡ image) × PublishDoes words old new
 
 -- words that were published leave the writer as `publish` says, with their image behind its publications
-pub published_end : (bank : TableId) (image words : List ℕ) (w u : Writing) → image_of words ≡ image → Publishes words bank.slots w u → PublishedEnd image (writer_end bank w) (writer_end bank u)
+pub published_end : (bank : TableId) (image words : List ℕ) (w u : Writing) → image_in_words words ≡ image → Publishes words bank.slots w u → PublishedEnd image (writer_end bank w) (writer_end bank u)
 published_end bank image words w u same k = record {
-  appended = ap images k.list ∙ (map-append image_of w.pins.publications (words ∷ []) ∙ ap (λ (z : List ℕ). images w.pins.publications ++ z ∷ []) same);
+  appended = ap images k.list ∙ (map-append image_in_words w.pins.publications (words ∷ []) ∙ ap (λ (z : List ℕ). images w.pins.publications ++ z ∷ []) same);
   does = (words, same, record { scans = k.scans; buffer = k.buffer; only = k.only; most = k.most; did = k.grows; last = k.last; state = k.up_to_date.state; ran = k.up_to_date.ran; current = k.up_to_date.index; published = ap (λ (z : Writer). images z.publications) k.up_to_date.pins });
 }
 

@@ -8,7 +8,7 @@ use mathlib.Core.Option.{some, some-ne-none}
 use Rattle.atomic_table.proofs.Lists.{set_again, set_here}
 use lib.ListN.{get_elem?}
 use Rattle.atomic_table.specs.Table.{State, Step, keeps, Allows}
-use Rattle.pin_core.specs.State.{Reader, Writer, PinState, newcomer, words_of, leavings_of, started_of, published, publication}
+use Rattle.pin_core.specs.State.{Reader, Writer, PinState, newcomer, words_of_buffer, leavings_of, started_of, published, publication_at}
 use Rattle.pin_core.specs.Effects.{scanning, CanScan, after_scan, CanReset, after_reset, CanWrite, after_write, CanPublish, after_publish}
 use Rattle.pin_core.specs.StateInvariant.{Lawful, holders}
 use Rattle.pin_core.proofs.WriterStepLemmas.{scan_keeps, reset_keeps, write_keeps, publish_keeps}
@@ -17,7 +17,7 @@ use Rattle.xcp_bank.specs.SeatKnowledge.{Writing, Known}
 use Rattle.xcp_bank.specs.private.Everybody.{the_writer}
 use Rattle.xcp_bank.specs.TableRule.{Shows, IsNumbered, Leads, Banked, IsBank}
 use Rattle.xcp_bank.specs.private.ReaderSteps.{Seat}
-use Rattle.xcp_bank.specs.private.WriterSteps.{writer_plays, Scanned, writing_after_scan, WasReset, writing_after_reset, Written, writing_after_write, rewritten, Peeked, standing, word_there, WrittenAgain, KeptUpTo, Published, writing_after_publish}
+use Rattle.xcp_bank.specs.private.WriterSteps.{writer_plays, Scanned, writing_after_scan, WasReset, writing_after_reset, Written, writing_after_write, rewritten, Peeked, standing, word_there, WrittenAgain, KeptUpTo, SeatPublished, writing_after_publish}
 use Rattle.xcp_bank.proofs.OtherSeatLemmas.{seat_step}
 use Rattle.xcp_bank.proofs.PlaceLemmas.{lower}
 use Rattle.pin_core.specs.declared.events.Seen.TheVariants as an
@@ -50,7 +50,7 @@ module _ (W : ℕ) (t : State (Unit {0}) Known) (b : Banked W t) (id : ℕ) (w :
   grows = b.noted id (the_writer w) w at refl
 
   -- a step of the writer, which leaves the readers
-  writer_step : (ws : List ℕ) (u : PinState) (w' : Writing) → Lawful W u → Shows W ws u → ((p : ℕ) → p < published u → IsNumbered W p (publication u p)) → Leads u w' → u.readers ≡ b.core.readers
+  writer_step : (ws : List ℕ) (u : PinState) (w' : Writing) → Lawful W u → Shows W ws u → ((p : ℕ) → p < published u → IsNumbered W p (publication_at u p)) → Leads u w' → u.readers ≡ b.core.readers
       → ((n : ℕ) → n ≤ published b.core → take n u.writer.publications ≡ take n b.core.writer.publications)
       → (d : Deed) → Steps W b.core d.0 d.1 u → doer d.0 ≡ 0 → w'.history ≡ b.history ++ d ∷ []
       → Banked W record { words = ws; homes = t.homes; views = set t.views id (the_writer w') }
@@ -130,13 +130,13 @@ module _ (W : ℕ) (t : State (Unit {0}) Known) (b : Banked W t) (id : ℕ) (w :
       let can : CanWrite W s n c = (ap (λ (z : Writer). z.building) k.pins ∙ building, n_is, room) in
       let built = b.lawful.builds.building c can.0 in
       let place : ℕ = c * W + n in
-      let row : List ℕ = set (words_of s c) n x in
+      let row : List ℕ = set (words_of_buffer s c) n x in
       let size = b.shows.size in
       let fits : place < 8 * W + 0 = lower W c 8 n 0 built.buffer room in
       let there : 9 + place < length t.words = (let z : ℕ = 8 * W in omega arith) in
       let low' : c < length s.words = (let l = b.lawful.sizes.buffers in let g = built.buffer in omega arith) in
-      let wide : length (words_of s c) ≡ W = b.lawful.sizes.widths c built.buffer in
-      let inside : n < length (words_of s c) = omega arith in
+      let wide : length (words_of_buffer s c) ≡ W = b.lawful.sizes.widths c built.buffer in
+      let inside : n < length (words_of_buffer s c) = omega arith in
       writer_step (set t.words (9 + place) x) (after_write s n x c) (writing_after_write x b.history w) (write_keeps W s n x c b.lawful can)
       record {
         size = length-set t.words (9 + place) x ∙ b.shows.size;
@@ -147,9 +147,9 @@ module _ (W : ℕ) (t : State (Unit {0}) Known) (b : Banked W t) (id : ℕ) (w :
             (dite (ℕ_discrete j n)
             (λ same. subst (λ (m : ℕ). get_or (set t.words (9 + place) x) (9 + (c * W + m)) 0 ≡ get_or (get_or (set s.words c row) c []) m 0) (sym same)
             (get_or-set_same t.words (9 + place) x 0 there ∙ sym (ap (λ (l : List ℕ). get_or l n 0) (get_or-set_same s.words c row [] low') ∙
-            get_or-set_same (words_of s c) n x 0 inside)))
+            get_or-set_same (words_of_buffer s c) n x 0 inside)))
             (λ other. get_or-set_other t.words (9 + place) (9 + (c * W + j)) x 0 (λ e'. (let p : ℕ = c * W in omega arith)) ∙ (b.shows.image c j built.buffer h ∙
-            sym (ap (λ (l : List ℕ). get_or l j 0) (get_or-set_same s.words c row [] low') ∙ get_or-set_other (words_of s c) n j x 0 other)))))
+            sym (ap (λ (l : List ℕ). get_or l j 0) (get_or-set_same s.words c row [] low') ∙ get_or-set_other (words_of_buffer s c) n j x 0 other)))))
             (λ ne. get_or-set_other t.words (9 + place) (9 + (d * W + j)) x 0 (λ e'. (let a = places_apart W d c j n ne h room in let p : ℕ = d * W + j in let q : p ≡ place = omega arith in a q)) ∙ (b.shows.image d j g h ∙
             ap (λ (l : List ℕ). get_or l j 0) (sym (get_or-set_other s.words c d row [] ne))));
       }
@@ -166,19 +166,19 @@ module _ (W : ℕ) (t : State (Unit {0}) Known) (b : Banked W t) (id : ℕ) (w :
 
   -- what was written is numbered, and the publications before are as they were
   numbered_more : (c : ℕ) → length w.pins.written ≡ W → get_or w.pins.written (W - 1) 0 ≡ length w.pins.publications % 18446744073709551616
-      → (p : ℕ) → p < published (after_publish s c) → IsNumbered W p (publication (after_publish s c) p)
+      → (p : ℕ) → p < published (after_publish s c) → IsNumbered W p (publication_at (after_publish s c) p)
   numbered_more c full last p l =
       let k = leads in
       let long : published (after_publish s c) ≡ published s + 1 = length_push s.writer.publications s.writer.written in
       let many : published s ≡ length w.pins.publications = ap (λ (z : Writer). length z.publications) k.pins in
       dite (ℕ_discrete p (published s))
-      (λ e. subst (λ (q : ℕ). IsNumbered W q (publication (after_publish s c) q)) (sym e)
+      (λ e. subst (λ (q : ℕ). IsNumbered W q (publication_at (after_publish s c) q)) (sym e)
       (subst (IsNumbered W (published s)) (sym (get_or_push s.writer.publications s.writer.written [] (published s) refl))
       record { size = ap (λ (z : Writer). length z.written) k.pins ∙ full; number = ap (λ (z : Writer). get_or z.written (W - 1) 0) k.pins ∙ (last ∙ ap (λ (m : ℕ). m % 18446744073709551616) (sym many)) }))
       (λ ne. (let low : p < published s = omega arith in subst (IsNumbered W p) (sym (get_or_append_left s.writer.publications (s.writer.written ∷ []) [] p low)) (b.numbered p low)))
 
   pub publish_step : (c : ℕ) → w.pins.building ≡ Some c → length w.pins.written ≡ W → get_or w.pins.written (W - 1) 0 ≡ length w.pins.publications % 18446744073709551616
-      → (u : Writing) × Banked W record { words = set t.words 0 (c * 4294967296); homes = t.homes; views = set t.views id (the_writer u) } × Published W c w (get_or t.words 0 0) u
+      → (u : Writing) × Banked W record { words = set t.words 0 (c * 4294967296); homes = t.homes; views = set t.views id (the_writer u) } × SeatPublished W c w (get_or t.words 0 0) u
   publish_step c building full last =
       let k = leads in
       let can : CanPublish W s c = (ap (λ (z : Writer). z.building) k.pins ∙ building, ap (λ (z : Writer). length z.written) k.pins ∙ full) in
@@ -318,8 +318,8 @@ scan_allowed W id w me c is low apart none st = lets W id w (1 + c) (λ n. n) (S
 
 -- the rule allows the writer a Publish of a buffer built in full that ends with its number, modulo 2^64
 pub publish_allowed : (W id : ℕ) (w : Writing) (me : Seat) (c : ℕ) → me.0 ≡ the_writer w → w.pins.building ≡ Some c → length w.pins.written ≡ W → get_or w.pins.written (W - 1) 0 ≡ length w.pins.publications % 18446744073709551616 → (st : Step (Unit {0}))
-    → Allows IsBank W id me 0 (λ _. c * 4294967296) (writer_plays (Published W c) st me)
-publish_allowed W id w me c is building full last st = lets W id w 0 (λ _. c * 4294967296) (Published W c) me is (λ t b at. publish_step W t b id w at c building full last) st
+    → Allows IsBank W id me 0 (λ _. c * 4294967296) (writer_plays (SeatPublished W c) st me)
+publish_allowed W id w me c is building full last st = lets W id w 0 (λ _. c * 4294967296) (SeatPublished W c) me is (λ t b at. publish_step W t b id w at c building full last) st
 
 -- the rule allows the writer a Reset, which makes the leavings 0, of a buffer that it found quiet
 pub reset_allowed : (W id : ℕ) (w : Writing) (me : Seat) (c : ℕ) → me.0 ≡ the_writer w → c < 8 → w.pins.quiet ≡ Some c → (st : Step (Unit {0}))

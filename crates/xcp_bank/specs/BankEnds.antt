@@ -2,14 +2,14 @@
 use Rattle.std.specs.Prelude.{◌≡◌, ◌≢◌, ◌↔◌, ℕ, suc, ◌+◌, ◌-◌, ◌/◌, ◌<◌, ◌≤◌, false, true, List, [], ◌∷◌, ◌++◌, length, map, sum_by, slice_index_or, Option, Some, None}
 use Rattle.xcp_bank.specs.BankId.{BankId, bank_of, buffer_words, image_bytes}
 use Rattle.atomic_table.specs.Seated.{TableId}
-use Rattle.xcp_bank.specs.PinHistory.{Deed, Grows, Does, Ran, Ends, AllScans, looked_at, pinned_at, given_up, has_reset, has_published, reads_of, writes_of}
+use Rattle.xcp_bank.specs.PinHistory.{Deed, Grows, Does, Ran, EndsInDeed, AllScans, looked_at, pinned_at, given_up, has_reset, has_published, reads_of, writes_of}
 use Rattle.xcp_bank.specs.HeldBufferCount.{others, scanned_buffer, scan_of, unquiet}
 use Rattle.xcp_bank.specs.declared.taken.Taken.{Taken}
 use Rattle.xcp_bank.specs.declared.taken.Taken.TheVariants.{Same, Newer}
 use mathlib.Core.List.{IsPrefix}
 use Rattle.xcp_bank.specs.SeatKnowledge.{AllBegin, Reading, Writing}
 use Rattle.pin_core.specs.State.{PinState, reader}
-use Rattle.xcp_bank.specs.Images.{image_of, images}
+use Rattle.xcp_bank.specs.Images.{image_in_words, images}
 
 -- A reader.
 pub record ReaderEnd : Type 0 where
@@ -134,11 +134,11 @@ pub record AcquireDoes (taken : Taken) (old new : ReaderEnd) : Type 0 where
   pub seen : images state.writer.publications ≡ new.seen
   pub holds : (reader state old.index).held ≡ new.held
   -- the same: a Look
-  pub once : taken ≡ Same → (deeds ≡ looked_at old.index buffer ∷ []) × Ends new.history (looked_at old.index buffer)
+  pub once : taken ≡ Same → (deeds ≡ looked_at old.index buffer ∷ []) × EndsInDeed new.history (looked_at old.index buffer)
   -- a newer one: a Pin, and a Look and an Unpin before it where something was held
   pub first : old.held ≡ None → deeds ≡ pinned_at old.index buffer ∷ []
   pub other : taken ≡ Newer → (b p : ℕ) → old.held ≡ Some (b, p) → (i : ℕ) × (i ≢ b) × (deeds ≡ looked_at old.index i ∷ given_up old.index false ∷ pinned_at old.index buffer ∷ [])
-  pub last : taken ≡ Newer → Ends new.history (pinned_at old.index buffer)
+  pub last : taken ≡ Newer → EndsInDeed new.history (pinned_at old.index buffer)
 
 -- Its history is a run of the core to a state in which it holds what it says.
 pub record IsRun (x : ReaderEnd) : Type 0 where
@@ -149,7 +149,7 @@ pub record IsRun (x : ReaderEnd) : Type 0 where
 -- Reads of n words from word k on, of the image that it holds: nothing changes but the history.
 pub record ReadDoes (k n : ℕ) (old new : ReaderEnd) : Type 0 where
   pub words : List ℕ
-  pub image : image_of words ≡ image_held old
+  pub image : image_in_words words ≡ image_held old
   pub did : ReaderDoes old new (reads_of old.index words k n)
   pub same : new ≡ record old { history = new.history; pending = new.pending }
 
@@ -181,7 +181,7 @@ pub record PublishDoes (words : List ℕ) (old new : WriterEnd) : Type 0 where
   pub only : AllScans scans
   pub most : length scans ≤ 7
   pub did : Grows 0 old.history new.history (scans ++ has_reset buffer ∷ (writes_of words (length words) ++ has_published ∷ []))
-  pub last : Ends new.history has_published
+  pub last : EndsInDeed new.history has_published
   -- its history is a run to a state in which its publications are all there are
   pub state : PinState
   pub ran : Ran (buffer_words new.bank) new.history state

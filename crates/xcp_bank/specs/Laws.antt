@@ -5,7 +5,7 @@ use lib.ListN.{get_elem?}
 use Rattle.atomic_table.specs.Table.{State}
 use Rattle.pin_core.specs.State.{PinState, started_of}
 use Rattle.pin_core.specs.StateInvariant.{holders}
-use Rattle.xcp_bank.specs.PinHistory.{Deed, Ran, Does, Ends, looked_at, has_scanned}
+use Rattle.xcp_bank.specs.PinHistory.{Deed, Ran, Does, EndsInDeed, looked_at, has_scanned}
 use Rattle.xcp_bank.specs.SeatKnowledge.{Reading, Writing, Known, one_reader}
 use Rattle.xcp_bank.specs.TableRule.{Banked}
 
@@ -20,7 +20,7 @@ NotedLooksLook = (W : ℕ) (t : State (Unit {0}) Known) → Banked W t
     → (id r : ℕ) (x : Reading) → get_elem? t.views id ≡ some (one_reader r x) → x.pending ≡ []
     → (j : ℕ) (v : Known) (w : Writing) → j ≢ id → get_elem? t.views j ≡ some v → v.writer ≡ Some w
     → (words : List ℕ) (y : Reading) (i : ℕ) → Banked W (stepped t id words (one_reader r y))
-    → Does (suc r) x.history x.pending y.history y.pending (looked_at r i ∷ []) → y.pending ≡ [] → Ends y.history (looked_at r i)
+    → Does (suc r) x.history x.pending y.history y.pending (looked_at r i ∷ []) → y.pending ≡ [] → EndsInDeed y.history (looked_at r i)
     → i ≡ w.current
 
 -- A Scan tells who holds its buffer. Where it is the last deed of a history, as many pins of that buffer were started as it told were

@@ -11,9 +11,9 @@ use Rattle.pin_core.specs.Steps.{Runs}
 abbrev pub Deed : Type 0
 Deed = Event × Seen
 
-abbrev pub events_of : List Deed → List Event
-events_of [] = []
-events_of (d ∷ ds) = d.0 ∷ events_of ds
+abbrev pub deed_events : List Deed → List Event
+deed_events [] = []
+deed_events (d ∷ ds) = d.0 ∷ deed_events ds
 
 abbrev pub answers_of : List Deed → List Seen
 answers_of [] = []
@@ -22,7 +22,7 @@ answers_of (d ∷ ds) = d.1 ∷ answers_of ds
 -- The history is a run of the core to this state, from the opening with some first image, in buffers of W words. So all laws over
 -- runs of the core hold of it.
 abbrev pub Ran : ℕ → List Deed → PinState → Type 0
-Ran W history s = (first : List ℕ) × (length first ≡ W) × Runs W (opening first) (events_of history) (answers_of history) s
+Ran W history s = (first : List ℕ) × (length first ≡ W) × Runs W (opening first) (deed_events history) (answers_of history) s
 
 -- who does it: 0 is the writer, and 1 + r the reader r
 abbrev pub doer : Event → ℕ
@@ -51,8 +51,8 @@ pub record Does (who : ℕ) (old pending new kept deeds : List Deed) : Type 0 wh
   pub own_is : deeds_by who more ++ kept ≡ pending ++ deeds
 
 -- The history ends with this deed.
-abbrev pub Ends : List Deed → Deed → Type 0
-Ends history d = (front : List Deed) × (history ≡ front ++ d ∷ [])
+abbrev pub EndsInDeed : List Deed → Deed → Type 0
+EndsInDeed history d = (front : List Deed) × (history ≡ front ++ d ∷ [])
 
 -- the deeds, by name
 

@@ -4,10 +4,10 @@ use mathlib.Core.Option.{some}
 use lib.ListN.{get_elem?}
 use Rattle.atomic_table.specs.Table.{State}
 use Rattle.pin_core.specs.Steps.{Runs}
-use Rattle.pin_core.specs.State.{PinState, reader, words_of, leavings_of, published, publication, opening}
+use Rattle.pin_core.specs.State.{PinState, reader, words_of_buffer, leavings_of, published, publication_at, opening}
 use Rattle.pin_core.specs.CurrentWord.{head_of}
 use Rattle.pin_core.specs.StateInvariant.{Lawful, holders}
-use Rattle.xcp_bank.specs.PinHistory.{Deed, events_of, answers_of, Grows}
+use Rattle.xcp_bank.specs.PinHistory.{Deed, deed_events, answers_of, Grows}
 use mathlib.Core.List.{IsPrefix}
 use Rattle.xcp_bank.specs.SeatKnowledge.{AllBegin, Reading, Writing, Known}
 
@@ -16,7 +16,7 @@ pub record Shows (W : ℕ) (ws : List ℕ) (s : PinState) : Type 0 where
   pub size : length ws ≡ 9 + 8 * W
   pub head : slice_index ws 0 ≡ head_of s.index s.count
   pub left : (b : ℕ) → b < 8 → slice_index ws (1 + b) ≡ leavings_of s b
-  pub image : (b k : ℕ) → b < 8 → k < W → slice_index ws (9 + (b * W + k)) ≡ slice_index (words_of s b) k
+  pub image : (b k : ℕ) → b < 8 → k < W → slice_index ws (9 + (b * W + k)) ≡ slice_index (words_of_buffer s b) k
 
 -- The publication p has W words, and the last is its number modulo 2^64.
 pub record IsNumbered (W p : ℕ) (words : List ℕ) : Type 0 where
@@ -24,7 +24,7 @@ pub record IsNumbered (W p : ℕ) (words : List ℕ) : Type 0 where
   pub number : slice_index words (W - 1) ≡ p % 18446744073709551616
 
 -- The seat `id` stands for the reader r, which is as x says.
-pub record Stands (s : PinState) (own : ℕ → ℕ) (id r : ℕ) (x : Reading) : Type 0 where
+pub record StandsFor (s : PinState) (own : ℕ → ℕ) (id r : ℕ) (x : Reading) : Type 0 where
   pub inside : r < 6
   pub mine : own r ≡ id
   pub pins : reader s r ≡ x.pins
@@ -33,7 +33,7 @@ pub record Stands (s : PinState) (own : ℕ → ℕ) (id r : ℕ) (x : Reading) 
 
 abbrev pub StandsForAll : PinState → (ℕ → ℕ) → ℕ → List (ℕ × Reading) → Type 0
 StandsForAll s own id [] = Unit {0}
-StandsForAll s own id (y ∷ ys) = Stands s own id y.0 y.1 × StandsForAll s own id ys
+StandsForAll s own id (y ∷ ys) = StandsFor s own id y.0 y.1 × StandsForAll s own id ys
 
 -- The writer is as w says, the buffers have the words that it knows, and the idle buffer is not current and has no holder.
 pub record Leads (s : PinState) (w : Writing) : Type 0 where
@@ -46,13 +46,13 @@ pub record Leads (s : PinState) (w : Writing) : Type 0 where
 
 -- The reader r has a beginning of the history, and behind it stands no deed of its own but those that it knows. What it heard of
 -- the writer is a beginning too.
-pub record Records (history : List Deed) (r : ℕ) (x : Reading) : Type 0 where
+pub record RecordsReader (history : List Deed) (r : ℕ) (x : Reading) : Type 0 where
   pub grows : Grows (suc r) x.history history x.pending
   pub heard : IsPrefix x.heard history
 
 abbrev pub RecordsAll : List Deed → List (ℕ × Reading) → Type 0
 RecordsAll history [] = Unit {0}
-RecordsAll history (y ∷ ys) = Records history y.0 y.1 × RecordsAll history ys
+RecordsAll history (y ∷ ys) = RecordsReader history y.0 y.1 × RecordsAll history ys
 
 -- There is a lawful state which the words show. Each seat stands for its readers in it, and one for the writer. A spent seat stands
 -- for nobody; one that was dropped still stands for whom it stood. Which seat stands for whom is known to the rule alone.
@@ -65,12 +65,12 @@ pub record Banked (W : ℕ) (t : State (Unit {0}) Known) : Type 0 where
   pub writer_seat : ℕ
   pub lawful : Lawful W core
   pub shows : Shows W t.words core
-  pub numbered : (p : ℕ) → p < published core → IsNumbered W p (publication core p)
+  pub numbered : (p : ℕ) → p < published core → IsNumbered W p (publication_at core p)
   pub readers : (id : ℕ) (v : Known) → get_elem? t.views id ≡ some v → StandsForAll core own id v.readers
   pub first : List ℕ
   pub wide : length first ≡ W
   pub history : List Deed
-  pub run : Runs W (opening first) (events_of history) (answers_of history) core
+  pub run : Runs W (opening first) (deed_events history) (answers_of history) core
   pub recorded : (id : ℕ) (v : Known) → get_elem? t.views id ≡ some v → RecordsAll history v.readers
   pub noted : (id : ℕ) (v : Known) (w : Writing) → get_elem? t.views id ≡ some v → v.writer ≡ Some w → Grows 0 w.history history []
   pub writer : (id : ℕ) (v : Known) (w : Writing) → get_elem? t.views id ≡ some v → v.writer ≡ Some w → (writer_seat ≡ id) × Leads core w

@@ -2,7 +2,7 @@
 ghost use Rattle.std.specs.Prelude.{◌≡◌, ℕ, suc, ◌%◌, ◌<◌, ◌≤◌, List, length, IfOk};
 ghost use Rattle.std.specs.Arc.{arc_value};
 ghost use Rattle.xcp_bank.specs.SeatKnowledge.{starting};
-ghost use Rattle.xcp_bank.specs.Images.{image_of};
+ghost use Rattle.xcp_bank.specs.Images.{image_in_words};
 ghost use Rattle.xcp_bank.specs.private.SeatSteps.{IsFirstSeat};
 ghost use Rattle.xcp_bank.specs.BankId.{bank_of, image_bytes};
 ghost use Rattle.xcp_bank.specs.BankEnds.{reader_end, six_readers, new_writer};
@@ -46,7 +46,7 @@ impl Bank {
 // Cuts the six readers' seats off the first one.
 fn six(board: &Arc<Board>, seat: &mut Token) -> Result<[Reader; READERS], AllocError>
     requires { (words : List ℕ) × IsFirstSeat seat.old (arc_value board.now) 6 words }
-    ensures { IfOk result (λ readers. (words : List ℕ) → IsFirstSeat seat.old (arc_value board.now) 6 words → IsFirstSeat seat.new (arc_value board.now) 0 words × (readers ≡ six_readers (bank_of (arc_value board.now)) (image_of words))) }
+    ensures { IfOk result (λ readers. (words : List ℕ) → IsFirstSeat seat.old (arc_value board.now) 6 words → IsFirstSeat seat.new (arc_value board.now) 0 words × (readers ≡ six_readers (bank_of (arc_value board.now)) (image_in_words words))) }
 {
     let (three, four, five) = last_three(board, seat)?;
     let (zero, one, two) = last_three(board, seat)?;

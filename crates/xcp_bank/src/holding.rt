@@ -1,6 +1,6 @@
 //! The writer counts the buffers that are held.
 ghost use Rattle.xcp_bank.specs.SeatKnowledge.{Writing};
-ghost use Rattle.xcp_bank.specs.private.SeatSteps.{Counted, IsWriterSeat, Rests, WriterMoves};
+ghost use Rattle.xcp_bank.specs.private.SeatSteps.{HeldCounted, IsWriterSeat, Rests, WriterMoves};
 
 use crate::table::{Board, Token, scan};
 use pin_core::BUFFERS;
@@ -13,7 +13,7 @@ pub(crate) fn count_held(
     started: &[u64; BUFFERS],
 ) -> u8
     requires { (w : Writing) × IsWriterSeat token.old board.now w × Rests current started.now w }
-    ensures { WriterMoves (Counted 8 result) token.old token.new board.now }
+    ensures { WriterMoves (HeldCounted 8 result) token.old token.new board.now }
 {
     let mut held = 0u8;
     for buffer in 0..BUFFERS {

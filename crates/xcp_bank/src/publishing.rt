@@ -5,7 +5,7 @@ ghost use Rattle.xcp_bank.specs.SeatKnowledge.{Writing};
 ghost use Rattle.std.specs.Prelude.{◌/◌, ◌≤◌};
 ghost use Rattle.xcp_bank.specs.private.BlockMarks.{IsMarked, TakenAway};
 ghost use Rattle.xcp_bank.specs.private.ImageWords.{words_for};
-ghost use Rattle.xcp_bank.specs.private.SeatSteps.{IsWriterSeat, WriterMoves, Rests, FoundQuiet, Publishes, WrittenSoFar, bytes_in, filled};
+ghost use Rattle.xcp_bank.specs.private.SeatSteps.{IsWriterSeat, WriterMoves, Rests, FoundQuiet, Publishes, WrittenSoFar, bytes_of_table, filled};
 
 use crate::marks::{BLOCK_WORDS, Marks};
 use crate::table::{
@@ -95,7 +95,7 @@ fn write_words(
 )
     requires buffer { buffer < BUFFERS }
     requires base { base ≡ 9 + buffer * board.now.slots }
-    requires size { length image.now ≡ bytes_in board.now }
+    requires size { length image.now ≡ bytes_of_table board.now }
     requires order { from ≤ to }
     requires inside { to ≤ length image.now / 8 }
     requires seat { (number : ℕ) × (w : Writing) × WrittenSoFar board.now token.old buffer from (words_for image.now number) w }

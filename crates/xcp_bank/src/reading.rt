@@ -2,8 +2,8 @@
 ghost use Rattle.std.specs.Prelude.{◌≡◌, ◌≢◌, ℕ, ◌+◌, ◌-◌, ◌*◌, ◌/◌, ◌%◌, ◌<◌, ◌≤◌, [], length, take, drop, slice_index, slice_index_or, Some};
 ghost use Rattle.std.specs.Int.{w64, to_le_bytes};
 ghost use Rattle.xcp_bank.specs.SeatKnowledge.{Reading};
-ghost use Rattle.xcp_bank.specs.Images.{image_of};
-ghost use Rattle.xcp_bank.specs.private.SeatSteps.{IsReaderSeat, HasRead, ReaderMoves, ReadsOn, WordReadAt, bytes_in};
+ghost use Rattle.xcp_bank.specs.Images.{image_in_words};
+ghost use Rattle.xcp_bank.specs.private.SeatSteps.{IsReaderSeat, HasRead, ReaderMoves, ReadsOn, WordReadAt, bytes_of_table};
 ghost use Rattle.xcp_bank.specs.BankEnds.{words_in};
 
 use crate::MAX_IMAGE_BYTES;
@@ -17,9 +17,9 @@ const BLOCK: usize = 51;
 /// as far as they are asked for, and as many as may be of those between in blocks.
 pub(crate) fn read_at(board: &Board, token: &mut Token, buffer: usize, at: usize, out: &mut [u8])
     requires buffer { buffer < BUFFERS }
-    requires inside { at + length out.old ≤ bytes_in board.now }
+    requires inside { at + length out.old ≤ bytes_of_table board.now }
     requires seat { (r : ℕ) × (x : Reading) × IsReaderSeat token.old board.now r x × (p : ℕ) × (x.pins.held ≡ Some (buffer, p)) }
-    ensures { (r : ℕ) (x : Reading) → IsReaderSeat token.old board.now r x → (p : ℕ) → x.pins.held ≡ Some (buffer, p) → (y : Reading) × IsReaderSeat token.new board.now r y × HasRead (at / 8) (words_in at (length out.old)) p board.now.slots r x y × (out.new ≡ take (length out.old) (drop at (image_of (slice_index_or x.list p [])))) }
+    ensures { (r : ℕ) (x : Reading) → IsReaderSeat token.old board.now r x → (p : ℕ) → x.pins.held ≡ Some (buffer, p) → (y : Reading) × IsReaderSeat token.new board.now r y × HasRead (at / 8) (words_in at (length out.old)) p board.now.slots r x y × (out.new ≡ take (length out.old) (drop at (image_in_words (slice_index_or x.list p [])))) }
 {
     let base = buffer_at(board, buffer);
     read_words(board, token, buffer, base, at, out);
@@ -46,7 +46,7 @@ fn read_words(
 )
     requires buffer { buffer < BUFFERS }
     requires base { base ≡ 9 + buffer * board.now.slots }
-    requires inside { at + length out.old ≤ bytes_in board.now }
+    requires inside { at + length out.old ≤ bytes_of_table board.now }
     requires seat { (r : ℕ) × (x : Reading) × IsReaderSeat token.old board.now r x × (p : ℕ) × (x.pins.held ≡ Some (buffer, p)) }
     ensures { ReadsOn board.now buffer at (at / 8) (words_in at (length out.old)) token.old token.new out.old out.new }
 {
@@ -80,7 +80,7 @@ fn read_parts(
 )
     requires buffer { buffer < BUFFERS }
     requires base { base ≡ 9 + buffer * board.now.slots }
-    requires inside { at + length out.old ≤ bytes_in board.now }
+    requires inside { at + length out.old ≤ bytes_of_table board.now }
     requires order { from ≤ to }
     requires from { at < 8 * from + 8 }
     requires to { 8 * to < at + length out.old + 8 }
@@ -105,7 +105,7 @@ fn read_blocks(
 )
     requires buffer { buffer < BUFFERS }
     requires base { base ≡ 9 + buffer * board.now.slots }
-    requires inside { at + length out.old ≤ bytes_in board.now }
+    requires inside { at + length out.old ≤ bytes_of_table board.now }
     requires from { 0 < count → at ≤ 8 * from }
     requires to { 0 < count → 8 * (from + 51 * count) ≤ at + length out.old }
     requires seat { (r : ℕ) × (x : Reading) × IsReaderSeat token.old board.now r x × (p : ℕ) × (x.pins.held ≡ Some (buffer, p)) }
@@ -128,7 +128,7 @@ fn read_block(
 )
     requires buffer { buffer < BUFFERS }
     requires base { base ≡ 9 + buffer * board.now.slots }
-    requires inside { at + length out.old ≤ bytes_in board.now }
+    requires inside { at + length out.old ≤ bytes_of_table board.now }
     requires from { at ≤ 8 * k }
     requires to { 8 * (k + 51) ≤ at + length out.old }
     requires seat { (r : ℕ) × (x : Reading) × IsReaderSeat token.old board.now r x × (p : ℕ) × (x.pins.held ≡ Some (buffer, p)) }
@@ -165,7 +165,7 @@ fn read_seventeen(
 )
     requires buffer { buffer < BUFFERS }
     requires base { base ≡ 9 + buffer * board.now.slots }
-    requires inside { 8 * k + length out.old ≤ bytes_in board.now }
+    requires inside { 8 * k + length out.old ≤ bytes_of_table board.now }
     requires size { 8 * 17 ≤ length out.old }
     requires seat { (r : ℕ) × (x : Reading) × IsReaderSeat token.old board.now r x × (p : ℕ) × (x.pins.held ≡ Some (buffer, p)) }
     ensures { ReadsOn board.now buffer (8 * k) k 17 token.old token.new out.old out.new }
@@ -191,7 +191,7 @@ fn read_three(
 )
     requires buffer { buffer < BUFFERS }
     requires base { base ≡ 9 + buffer * board.now.slots }
-    requires inside { at + length out.old ≤ bytes_in board.now }
+    requires inside { at + length out.old ≤ bytes_of_table board.now }
     requires from { at ≤ 8 * k }
     requires to { 8 * (k + 3) ≤ at + length out.old }
     requires seat { (r : ℕ) × (x : Reading) × IsReaderSeat token.old board.now r x × (p : ℕ) × (x.pins.held ≡ Some (buffer, p)) }
@@ -214,7 +214,7 @@ fn read_whole(
 )
     requires buffer { buffer < BUFFERS }
     requires base { base ≡ 9 + buffer * board.now.slots }
-    requires inside { at + length out.old ≤ bytes_in board.now }
+    requires inside { at + length out.old ≤ bytes_of_table board.now }
     requires from { at ≤ 8 * k }
     requires to { 8 * k + 8 ≤ at + length out.old }
     requires seat { (r : ℕ) × (x : Reading) × IsReaderSeat token.old board.now r x × (p : ℕ) × (x.pins.held ≡ Some (buffer, p)) }
@@ -236,7 +236,7 @@ fn read_part(
 )
     requires buffer { buffer < BUFFERS }
     requires base { base ≡ 9 + buffer * board.now.slots }
-    requires inside { at + length out.old ≤ bytes_in board.now }
+    requires inside { at + length out.old ≤ bytes_of_table board.now }
     requires from { at < 8 * k + 8 }
     requires to { 8 * k < at + length out.old }
     requires seat { (r : ℕ) × (x : Reading) × IsReaderSeat token.old board.now r x × (p : ℕ) × (x.pins.held ≡ Some (buffer, p)) }

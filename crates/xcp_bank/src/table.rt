@@ -10,9 +10,9 @@ ghost use Rattle.xcp_bank.specs.SeatKnowledge.{Reading, Writing, starting};
 ghost use Rattle.xcp_bank.specs.private.Everybody.{everybody};
 ghost use Rattle.xcp_bank.specs.TableRule.{Banked};
 ghost use Rattle.xcp_bank.specs.private.ReaderSteps.{GivesUp};
-ghost use Rattle.xcp_bank.specs.private.WriterSteps.{Scanned, WasReset, Written, WrittenAgain, Published};
+ghost use Rattle.xcp_bank.specs.private.WriterSteps.{Scanned, WasReset, Written, WrittenAgain, SeatPublished};
 ghost use Rattle.xcp_bank.specs.private.SeatSplits.{when_joined, when_parted};
-ghost use Rattle.xcp_bank.specs.private.SeatSteps.{IsWide, bytes_in, IsReaderSeat, IsFirstSeat, IsWriterSeat, ReaderMoves, WriterMoves, PinnedAt, LookedAt, WordReadAt};
+ghost use Rattle.xcp_bank.specs.private.SeatSteps.{IsWide, bytes_of_table, IsReaderSeat, IsFirstSeat, IsWriterSeat, ReaderMoves, WriterMoves, PinnedAt, LookedAt, WordReadAt};
 
 mod cuts;
 mod reader_steps;
@@ -131,7 +131,7 @@ pub(crate) fn unpin_for_good(board: &Board, token: &mut Token, buffer: usize)
 /// How many bytes an image has.
 pub(crate) fn image_size(board: &Board) -> usize
     requires { IsWide board.now }
-    ensures { result ≡ bytes_in board.now }
+    ensures { result ≡ bytes_of_table board.now }
 {
     8 * (width(board) - 1)
 }
@@ -232,7 +232,7 @@ pub(crate) fn keep_words(board: &Board, token: &mut Token, buffer: usize, base: 
 pub(crate) fn swap_in(board: &Board, token: &mut Token, buffer: usize) -> u64
     requires buffer { buffer < BUFFERS }
     requires seat { (w : Writing) × IsWriterSeat token.old board.now w × (w.pins.building ≡ Some buffer) × (length w.pins.written ≡ board.now.slots) × (slice_index w.pins.written (board.now.slots - 1) ≡ length w.pins.publications % 18446744073709551616) × (w.current < BUFFERS) }
-    ensures { WriterMoves (λ W w u. (n : ℕ) × (p : Published W buffer w n u) × (result ≡ p.count)) token.old token.new board.now }
+    ensures { WriterMoves (λ W w u. (n : ℕ) × (p : SeatPublished W buffer w n u) × (result ≡ p.count)) token.old token.new board.now }
 {
     writer_steps::swap_in(&board.table.shared, &mut token.seat, buffer)
 }

@@ -5,7 +5,7 @@ ghost use Rattle.std.specs.Arc.{arc_value};
 ghost use Rattle.xcp_bank.specs.private.SeatSplits.{when_joined, when_parted};
 ghost use Rattle.xcp_bank.specs.private.SeatSteps.{IsReaderSeat, IsWriterSeat};
 ghost use Rattle.xcp_bank.specs.BankId.{image_bytes};
-ghost use Rattle.xcp_bank.specs.Images.{image_of};
+ghost use Rattle.xcp_bank.specs.Images.{image_in_words};
 ghost use Rattle.xcp_bank.specs.BankEnds.{writer_end, newest, HeldDoes, PublishDoes};
 ghost use Rattle.xcp_bank.specs.private.BlockMarks.{blocks_in};
 
@@ -69,7 +69,7 @@ impl Writer {
         requires { length image.now ≡ image_bytes self.old.bank }
         ensures same_bank { self.new.bank ≡ self.old.bank }
         ensures appended { self.new.publications ≡ self.old.publications ++ image.now ∷ [] }
-        ensures does { (words : List ℕ) × (image_of words ≡ image.now) × PublishDoes words self.old self.new }
+        ensures does { (words : List ℕ) × (image_in_words words ≡ image.now) × PublishDoes words self.old self.new }
     {
         self.publish_within(image, 0, image.len());
     }
@@ -86,7 +86,7 @@ impl Writer {
         requires outside { (i : ℕ) → i < length image.now → (i < from) ⊎ (to ≤ i) → slice_index image.now i ≡ slice_index (newest self.old) i }
         ensures same_bank { self.new.bank ≡ self.old.bank }
         ensures appended { self.new.publications ≡ self.old.publications ++ image.now ∷ [] }
-        ensures does { (words : List ℕ) × (image_of words ≡ image.now) × PublishDoes words self.old self.new }
+        ensures does { (words : List ℕ) × (image_in_words words ≡ image.now) × PublishDoes words self.old self.new }
     {
         self.marks.mark(from, to);
         publish_at(

@@ -15,8 +15,8 @@ pub record WriteEndValue : Type 0 where
   pub after : Option (List ℕ)
 
 -- the bytes of pieces, one behind another
-abbrev pub bytes_of : List (List ℕ) → List ℕ
-bytes_of pieces = flat_map (λ (piece : List ℕ). piece) pieces
+abbrev pub joined_pieces : List (List ℕ) → List ℕ
+joined_pieces pieces = flat_map (λ (piece : List ℕ). piece) pieces
 
 -- All of these pieces but the last stand there, in order, each once and whole, and of the last a prefix.
 pub record StopsInPiece (before after : Option (List ℕ)) (pieces : List (List ℕ)) : Type 0 where
@@ -24,10 +24,10 @@ pub record StopsInPiece (before after : Option (List ℕ)) (pieces : List (List 
   pub last : List ℕ
   pub joined : pieces ≡ whole ++ last ∷ []
   pub between : Option (List ℕ)
-  pub grown : Appends before between (bytes_of whole)
+  pub grown : Appends before between (joined_pieces whole)
   pub front : AppendsFront between after last
 
 -- These pieces stand there, in order, each once and whole, and nothing else; or a write of the last one failed.
-abbrev pub Stands : Bool → Option (List ℕ) → Option (List ℕ) → List (List ℕ) → Type 0
-Stands false before after pieces = Appends before after (bytes_of pieces)
-Stands true before after pieces = StopsInPiece before after pieces
+abbrev pub HoldsPieces : Bool → Option (List ℕ) → Option (List ℕ) → List (List ℕ) → Type 0
+HoldsPieces false before after pieces = Appends before after (joined_pieces pieces)
+HoldsPieces true before after pieces = StopsInPiece before after pieces

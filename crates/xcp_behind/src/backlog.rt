@@ -1,9 +1,9 @@
 //! What waits to be written.
 ghost use Rattle.std.specs.Prelude.{◌≡◌, ◌<◌, ◌++◌, [], ◌∷◌, IfSome, MatchBool, MatchOption, true};
-ghost use Rattle.relay.specs.Ends.{Meets};
+ghost use Rattle.relay.specs.Ends.{IsAllTaken};
 
 use crate::piece::Piece;
-use crate::room::{Progress, Room};
+use crate::room::{Progress, WaitingRoom};
 use relay::{Giver, Relay, Taker};
 use std::sync::{Condvar, CondvarTimeouts, Mutex, Wait};
 use std::time::{Clock, Duration};
@@ -12,7 +12,7 @@ use std::time::{Clock, Duration};
 #[derive(Drop)]
 pub struct Backlog {
     relay: Relay<Piece>,
-    room: Mutex<Room>,
+    room: Mutex<WaitingRoom>,
     changed: Condvar,
 }
 
@@ -23,7 +23,7 @@ impl Backlog {
     {
         Backlog {
             relay,
-            room: Mutex::new(Room::new()),
+            room: Mutex::new(WaitingRoom::new()),
             changed: Condvar::new(),
         }
     }
@@ -94,7 +94,7 @@ impl Backlog {
     /// Whether nothing lay here at one moment of the call. Then all that the giver handed in was taken.
     pub(crate) fn meets(&self, giver: &mut Giver<Piece>, taker: &mut Taker<Piece>) -> bool
         requires relay { (giver.old.relay ≡ self.now.relay) × (taker.old.relay ≡ self.now.relay) }
-        ensures meets { result ≡ true → Meets giver.new taker.new }
+        ensures meets { result ≡ true → IsAllTaken giver.new taker.new }
         ensures same { (giver.new ≡ giver.old) × (taker.new ≡ taker.old) }
     {
         self.relay.meets(giver, taker)

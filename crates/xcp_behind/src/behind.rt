@@ -1,7 +1,7 @@
 //! The end that takes in what is to be written.
 ghost use Rattle.std.specs.Prelude.{◌≡◌, ◌++◌, [], ◌∷◌, MatchBool, true};
 ghost use Rattle.std.specs.Arc.{arc_value};
-ghost use Rattle.xcp_behind.specs.Writing.{Stands};
+ghost use Rattle.xcp_behind.specs.Writing.{HoldsPieces};
 
 use crate::backlog::Backlog;
 use crate::piece::Piece;
@@ -45,7 +45,7 @@ impl Behind {
     pub fn meets<W: Write>(&mut self, end: &mut WriteEnd<W>) -> bool
         requires relay { self.old.giver.relay ≡ end.old.relay }
         ensures taken { result ≡ true → end.new.taken ≡ self.new.giver.given }
-        ensures stands { Stands end.new.failed end.new.before end.new.after end.new.taken }
+        ensures stands { HoldsPieces end.new.failed end.new.before end.new.after end.new.taken }
         ensures same { (self.new.giver ≡ self.old.giver) × (end.new ≡ end.old) }
     {
         end.meets(&self.backlog, &mut self.giver)

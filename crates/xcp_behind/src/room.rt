@@ -17,7 +17,7 @@ pub enum Progress {
 
 /// How much waits to be written, and whether more is taken in.
 #[derive(Drop)]
-pub struct Room {
+pub struct WaitingRoom {
     /// The pieces that were taken in and aren't written, and their bytes.
     pub(crate) pieces: usize,
     pub(crate) bytes: usize,

@@ -2,7 +2,7 @@
 ghost use Rattle.std.specs.Prelude.{◌≡◌, ◌+◌, ◌-◌, ◌^◌, ◌<◌, ◌≤◌, ◌⊎◌, MatchBool, min, true, false};
 ghost use Rattle.xcp_behind.specs.Room.{HasRoom, IsFull, IsProgress};
 
-use crate::room::{Progress, Room};
+use crate::room::{Progress, WaitingRoom};
 
 /// The most pieces that wait, the one that is being written among them.
 const MOST_PIECES: usize = 512;
@@ -10,13 +10,13 @@ const MOST_PIECES: usize = 512;
 /// The most bytes of these pieces: 18 MiB.
 const MOST_BYTES: usize = 18_874_368;
 
-impl Room {
+impl WaitingRoom {
     /// Nothing was taken in yet.
-    pub fn new() -> Room
+    pub fn new() -> WaitingRoom
         ensures { (result.pieces ≡ 0) × (result.bytes ≡ 0) × (result.written ≡ 0) × (result.given_up ≡ false)
             × (result.stopped ≡ false) }
     {
-        Room {
+        WaitingRoom {
             pieces: 0,
             bytes: 0,
             written: 0,

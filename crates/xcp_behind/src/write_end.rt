@@ -3,7 +3,7 @@ ghost use Rattle.std.specs.Prelude.{◌≡◌, [], true, false};
 ghost use Rattle.std.specs.Arc.{arc_value};
 ghost use Rattle.std.specs.Io.KnownBytes.{Appends};
 ghost use Rattle.xcp_framing.specs.Prefix.{AppendsFront};
-ghost use Rattle.xcp_behind.specs.Writing.{Stands};
+ghost use Rattle.xcp_behind.specs.Writing.{HoldsPieces};
 
 use crate::backlog::Backlog;
 use crate::piece::Piece;
@@ -32,13 +32,13 @@ impl<W: Write> Model for WriteEnd<W> {
     ghost use Rattle.std.specs.Prelude.{◌≡◌};
     ghost use Rattle.std.specs.Arc.{arc_value};
     ghost use Rattle.relay.specs.Ends.{items_of};
-    ghost use Rattle.xcp_behind.specs.Writing.{Stands, WriteEndValue};
+    ghost use Rattle.xcp_behind.specs.Writing.{HoldsPieces, WriteEndValue};
 
     ghost Value = { WriteEndValue };
 
     ghost view = { λ e. record { relay = e.taker.relay; taken = items_of 0 e.taker.taken; failed = e.failed; before = W.contents e.start.value; after = W.contents e.stream } };
 
-    ghost invariant = { λ e. (e.taker.relay ≡ (arc_value e.backlog).relay) × (e.taker.givers ≡ 1) × Stands e.failed (W.contents e.start.value) (W.contents e.stream) (items_of 0 e.taker.taken) };
+    ghost invariant = { λ e. (e.taker.relay ≡ (arc_value e.backlog).relay) × (e.taker.givers ≡ 1) × HoldsPieces e.failed (W.contents e.start.value) (W.contents e.stream) (items_of 0 e.taker.taken) };
 }
 
 impl<W: Write> WriteEnd<W> {
@@ -61,7 +61,7 @@ impl<W: Write> WriteEnd<W> {
     /// is written. Where more pieces lie there, they are flushed together, [`MOST_TOGETHER`] at most: what waits behind a slow flush costs
     /// one more.
     pub fn write_all(self, rt: &impl Wait) -> WriteEnd<W>
-        ensures stands { Stands result.failed result.before result.after result.taken }
+        ensures stands { HoldsPieces result.failed result.before result.after result.taken }
         ensures same { (result.relay ≡ self.relay) × (result.before ≡ self.before) }
     {
         if self.failed {
@@ -122,7 +122,7 @@ impl<W: Write> WriteEnd<W> {
         requires relay { (giver.old.relay ≡ backlog.now.relay) × (giver.old.relay ≡ self.old.relay) }
         requires tag { giver.old.tag ≡ 0 }
         ensures taken { result ≡ true → self.new.taken ≡ giver.new.given }
-        ensures stands { Stands self.new.failed self.new.before self.new.after self.new.taken }
+        ensures stands { HoldsPieces self.new.failed self.new.before self.new.after self.new.taken }
         ensures same { (giver.new ≡ giver.old) × (self.new ≡ self.old) }
     {
         backlog.meets(giver, &mut self.taker)

@@ -13,6 +13,7 @@ use Rattle.std.specs.declared.option.Option.TheVariants.{None, Some}
 use Rattle.std.specs.Global.{Global}
 use Rattle.xcp_c.specs.Held.{held_at}
 
+-- where what an exit leaves names no thread's token and no ticket, neither does what it leaves under a map, with nothing seen
 pub quiet : {D X : Type 0} (to : D → X) (e : Exit X) → Quiet e → Quiet (hidden (under to e))
 quiet to unchanged q = λ x w. tt
 quiet to (leaves L l S s r₀) q = λ d. q (to d)
@@ -21,6 +22,7 @@ lies : (R : RattleType) → IsSend R → (p : Ptr) (x : R.Denot) → Keyless (li
 lies R s (block_ptr b o) x = part_keyless R s full_share x b o
 lies R s null_ptr x = tt
 
+-- what a handle's pointer owns names no thread's token and no ticket, where the value may cross to another thread
 pub owned : (R : RattleType) → IsSend R → (a : Global) (p : Ptr) (o : Option R.Denot) → Keyless (held_at R a p o)
 owned R s a p (Some x) = (lies R s p x, heap.frees.frees a (raw (lone R.mir)) p)
 owned R s a p None = tt

@@ -10,31 +10,31 @@ use Rattle.xcp_flash.specs.declared.fault.FlashError.{FlashError}
 use Rattle.xcp_flash.specs.declared.fault.FlashError.TheVariants.{Head, Layout, Size, Digest}
 use Rattle.xcp_memory.specs.Layout.{LayoutValue}
 use Rattle.xcp_c.specs.DataOpenings.{IsFaultOfData, TellsData, TellsDataPages, TellsOther}
-use Rattle.xcp_c.specs.GivenFiles.{AreGiven, AreOther, Names, files_given, named_count}
+use Rattle.xcp_c.specs.GivenFiles.{AreGiven, AreOther, FileNames, files_given, named_count}
 use Rattle.xcp_c.specs.OpenValue.{OpenValue}
-use Rattle.xcp_c.specs.Openings.{IsFaultBeside, IsFaultIn, IsNoText, IsText, TellsPages, TellsPagesWith}
+use Rattle.xcp_c.specs.Openings.{IsFaultBeside, IsFaultIn, IsTextFault, IsLayoutText, TellsPages, TellsPagesWith}
 use Rattle.xcp_c.specs.StoredPages.{number_of_stored}
 use Rattle.xcp_c.proofs.OpeningLemmas.{tells_each}
 
-one_names : (text : List ℕ) (a b : Names) → NamesFiles text a → NamesFiles text b → a ≡ b
+one_names : (text : List ℕ) (a b : FileNames) → NamesFiles text a → NamesFiles text b → a ≡ b
 one_names text a b (inl p) (inl q) = cc
 one_names text a b (inl p) (inr q) = absurd cc
 one_names text a b (inr p) (inl q) = absurd cc
 one_names text a b (inr p) (inr q) = cc
 
 one_given : (text sizes bytes : List ℕ) (a b : List File) → AreGiven text sizes bytes a → AreGiven text sizes bytes b → a ≡ b
-one_given text sizes bytes a b p q = p.are ∙ ap (λ (names : Names). files_given names sizes bytes) (one_names text p.names q.names p.named q.named) ∙ sym q.are
+one_given text sizes bytes a b p q = p.are ∙ ap (λ (names : FileNames). files_given names sizes bytes) (one_names text p.names q.names p.named q.named) ∙ sym q.are
 
 -- files that are given aren't others
 not_other : (text sizes bytes : List ℕ) (files : List File) → AreGiven text sizes bytes files → AreOther text sizes bytes → ⊥
 not_other text sizes bytes files given (inl less) = less given.all
 not_other text sizes bytes files given (inr more) =
-    let most : length sizes ≤ named_count more.0 = subst (λ (names : Names). length sizes ≤ named_count names) (one_names text given.names more.0 given.named more.1) given.most in
+    let most : length sizes ≤ named_count more.0 = subst (λ (names : FileNames). length sizes ≤ named_count names) (one_names text given.names more.0 given.named more.1) given.most in
     let less = more.2 in
     omega arith
 
 -- a text has neither of the faults of what is no text
-is_text : (text : List ℕ) (n : ℕ) → IsText text → IsNoText text n → ⊥
+is_text : (text : List ℕ) (n : ℕ) → IsLayoutText text → IsTextFault text n → ⊥
 is_text text n ok (inl long) = let most = ok.0 in let more = long.0 in omega arith
 is_text text n ok (inr bad) = bad.1 ok.1
 
@@ -72,13 +72,13 @@ memory_alone files text l n has (inr (inr is)) = is
 
 module _ (text sizes bytes : List ℕ) where
   -- of a fault
-  other_of_fault : (n : ℕ) → IsFaultOfData text sizes bytes n → IsText text → AreOther text sizes bytes → (n ≡ 18) ⊎ ((sum sizes ≡ length bytes) × (n ≡ 7))
+  other_of_fault : (n : ℕ) → IsFaultOfData text sizes bytes n → IsLayoutText text → AreOther text sizes bytes → (n ≡ 18) ⊎ ((sum sizes ≡ length bytes) × (n ≡ 7))
   other_of_fault n (inl bad) ok other = absurd (is_text text n ok bad)
   other_of_fault n (inr (inl is)) ok other = inl is.2
   other_of_fault n (inr (inr (inl none))) ok other = inr (none.1, none.2)
   other_of_fault n (inr (inr (inr f))) ok other = absurd (not_other text sizes bytes f.0 f.2 other)
 
-  only_of_fault : (n : ℕ) → IsFaultOfData text sizes bytes n → n ≡ 18 → IsText text × AreOther text sizes bytes
+  only_of_fault : (n : ℕ) → IsFaultOfData text sizes bytes n → n ≡ 18 → IsLayoutText text × AreOther text sizes bytes
   only_of_fault n (inl (inl long)) is = let also = long.1 in absurd (omega arith)
   only_of_fault n (inl (inr bad)) is = let also = bad.2 in absurd (omega arith)
   only_of_fault n (inr (inl other)) is = (other.0, other.1)
@@ -89,7 +89,7 @@ module _ (text sizes bytes : List ℕ) where
   fault_tells_other n fault = record { other = other_of_fault n fault; only = only_of_fault n fault }
 
   -- the one fault where files are given, with which the text describes a layout
-  memory_of_fault : (n : ℕ) (files : List File) (l : LayoutValue) → IsFaultOfData text sizes bytes n → AreGiven text sizes bytes files → IsText text → HasLayoutWith files text l → n ≡ 7
+  memory_of_fault : (n : ℕ) (files : List File) (l : LayoutValue) → IsFaultOfData text sizes bytes n → AreGiven text sizes bytes files → IsLayoutText text → HasLayoutWith files text l → n ≡ 7
   memory_of_fault n files l (inl bad) given ok has = absurd (is_text text n ok bad)
   memory_of_fault n files l (inr (inl other)) given ok has = absurd (not_other text sizes bytes files given other.1)
   memory_of_fault n files l (inr (inr (inl none))) given ok has = none.2
@@ -115,7 +115,7 @@ module _ (text sizes bytes : List ℕ) where
   }
 
   -- what is told of the stored pages beside the layout
-  pub pages_tell : (file : List ℕ) (n : ℕ) (slave : Option OpenValue) (l : LayoutValue) → (files : List File) × AreGiven text sizes bytes files × IsText text × HasLayoutWith files text l → n ≢ 18 → TellsPages l text file n slave → TellsDataPages text sizes bytes file n slave
+  pub pages_tell : (file : List ℕ) (n : ℕ) (slave : Option OpenValue) (l : LayoutValue) → (files : List File) × AreGiven text sizes bytes files × IsLayoutText text × HasLayoutWith files text l → n ≢ 18 → TellsPages l text file n slave → TellsDataPages text sizes bytes file n slave
   pages_tell file n slave l (files, given, ok, has) differs tells = (
     given_tells_other n files given differs,
     (λ others also. subst (λ (fs : List File). TellsPagesWith fs text file n slave) (one_given text sizes bytes files others given also) (tells_each files text file l n slave has tells)),

@@ -9,7 +9,7 @@ use Rattle.xcp_flash.specs.Restoring.{IsFaultOfBoth}
 use Rattle.xcp_flash.specs.declared.fault.FlashError.{FlashError}
 use Rattle.xcp_memory.specs.Layout.{LayoutValue}
 use Rattle.xcp_c.specs.OpenValue.{OpenValue}
-use Rattle.xcp_c.specs.Openings.{IsFileOf, IsOpening, IsOpeningBy, TellsPages, TellsPagesWith}
+use Rattle.xcp_c.specs.Openings.{IsStoredFile, IsOpening, IsOpeningBy, TellsPages, TellsPagesWith}
 use Rattle.xcp_c.specs.StoredPages.{number_of_stored}
 
 one_layout : (files : List File) (text : List ℕ) (l m : LayoutValue) → HasLayoutWith files text l → HasLayoutWith files text m → l ≡ m
@@ -33,7 +33,7 @@ fault_at text file decided digest l restored is also faults e fault =
 module _ (text file : List ℕ) (l new : LayoutValue) (restored : Result (List ℕ) ℕ) where
   -- the same of a layout whose pages are restored
   abbrev pub WholeHere : Type 0
-  WholeHere = (pages : List (List ℕ)) → AreReferences pages l → IsFileOf l text file pages → IsOk restored × (new ≡ with_references pages l)
+  WholeHere = (pages : List (List ℕ)) → AreReferences pages l → IsStoredFile l text file pages → IsOk restored × (new ≡ with_references pages l)
 
   abbrev pub ToldHere : Type 0
   ToldHere = (e : FlashError) → IsFaultOfBoth l (sha256 (pages_decided l)) (sha256 text) file e → restored ≡ Err (number_of_stored e)

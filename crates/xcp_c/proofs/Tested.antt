@@ -28,6 +28,7 @@ found p = not (ptr_same (ptr_val p) vnull)
 abbrev pub Told : {X : Type 0} → Ptr → Option X → Type 0
 Told p o = Testable p × MatchBool (found p) (IsOpen o) (o ≡ None)
 
+-- a pointer's value has a pointer's type, and its width holds it
 pub ptr_typed : (p : Ptr) → T (has_ty ty_ptr (ptr_val p)) × WT (ptr_val p)
 ptr_typed (block_ptr b o) = (tt, tt)
 ptr_typed null_ptr = (tt, record { fits = lit< tt })

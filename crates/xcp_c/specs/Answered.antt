@@ -18,14 +18,14 @@ abbrev pub HasNoWidth : XcpAnswer → Type 0
 HasNoWidth c = ((0 < c.width) × (c.width < 7)) ⊎ (c.width ≡ 255)
 
 -- the answer, as numbers and bytes
-abbrev pub IsTold : Answer → XcpAnswer → Type 0
-IsTold answers.Silent c = c.told ≡ 0
-IsTold (answers.Packets packets) c = (c.told ≡ 1) × (packets_told c ≡ packets) × (c.count ≡ length packets)
-IsTold (answers.Sampled n) c = (c.told ≡ 2) × (c.count ≡ n)
-IsTold answers.Overrun c = c.told ≡ 3
-IsTold answers.NoChannel c = c.told ≡ 4
-IsTold answers.BadSignals c = c.told ≡ 5
-IsTold answers.Nothing c = c.told ≡ 6
-IsTold (answers.Stored n) c = (c.told ≡ 7) × (c.count ≡ n)
-IsTold answers.NoStore c = c.told ≡ 8
-IsTold answers.Later c = c.told ≡ 9
+abbrev pub IsAnswerInC : Answer → XcpAnswer → Type 0
+IsAnswerInC answers.Silent c = c.told ≡ 0
+IsAnswerInC (answers.Packets packets) c = (c.told ≡ 1) × (packets_told c ≡ packets) × (c.count ≡ length packets)
+IsAnswerInC (answers.Sampled n) c = (c.told ≡ 2) × (c.count ≡ n)
+IsAnswerInC answers.Overrun c = c.told ≡ 3
+IsAnswerInC answers.NoChannel c = c.told ≡ 4
+IsAnswerInC answers.BadSignals c = c.told ≡ 5
+IsAnswerInC answers.Nothing c = c.told ≡ 6
+IsAnswerInC (answers.Stored n) c = (c.told ≡ 7) × (c.count ≡ n)
+IsAnswerInC answers.NoStore c = c.told ≡ 8
+IsAnswerInC answers.Later c = c.told ≡ 9

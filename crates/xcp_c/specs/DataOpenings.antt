@@ -4,16 +4,16 @@ use Rattle.xcp_config.specs.TableLayout.{File}
 use Rattle.xcp_c.specs.GivenFiles.{AreGiven, AreOther}
 use Rattle.xcp_c.specs.Held.{IsOpen}
 use Rattle.xcp_c.specs.OpenValue.{OpenValue}
-use Rattle.xcp_c.specs.Openings.{IsFaultIn, IsFaultOfPages, IsNoText, IsOpenedBy, IsRestoredBy, IsText, TellsPagesWith, TellsTextWith}
+use Rattle.xcp_c.specs.Openings.{IsFaultIn, IsFaultOfPages, IsTextFault, IsOpenedBy, IsRestoredBy, IsLayoutText, TellsPagesWith, TellsTextWith}
 
 -- The number of a fault of this text, or of the sizes and the bytes of the files that it names: 16 or 8 as of any text; then 18 where these
 -- are others than its files have; and then that of the text with these files; or 7 where an allocation failed.
 abbrev pub IsFaultOfData : List ℕ → List ℕ → List ℕ → ℕ → Type 0
 IsFaultOfData text sizes bytes n =
-    IsNoText text n
-    ⊎ (IsText text × AreOther text sizes bytes × (n ≡ 18))
-    ⊎ (IsText text × (sum sizes ≡ length bytes) × (n ≡ 7))
-    ⊎ ((files : List File) × IsText text × AreGiven text sizes bytes files × IsFaultIn files text n)
+    IsTextFault text n
+    ⊎ (IsLayoutText text × AreOther text sizes bytes × (n ≡ 18))
+    ⊎ (IsLayoutText text × (sum sizes ≡ length bytes) × (n ≡ 7))
+    ⊎ ((files : List File) × IsLayoutText text × AreGiven text sizes bytes files × IsFaultIn files text n)
 
 -- the files that the text names are given, with which it describes a layout, and the slave is that of its opening
 abbrev pub IsOpenedByData : List ℕ → List ℕ → List ℕ → Option OpenValue → Type 0
@@ -28,8 +28,8 @@ OpensByData text sizes bytes n old new =
 
 -- Where sizes and bytes are others than the files of the text have, 18 is told, and nowhere else; but 7 where memory is wanting.
 pub record TellsOther (text sizes bytes : List ℕ) (n : ℕ) : Type 0 where
-  pub other : IsText text → AreOther text sizes bytes → (n ≡ 18) ⊎ ((sum sizes ≡ length bytes) × (n ≡ 7))
-  pub only : n ≡ 18 → IsText text × AreOther text sizes bytes
+  pub other : IsLayoutText text → AreOther text sizes bytes → (n ≡ 18) ⊎ ((sum sizes ≡ length bytes) × (n ≡ 7))
+  pub only : n ≡ 18 → IsLayoutText text × AreOther text sizes bytes
 
 -- with the files that are given, where it describes a layout, a slave of it is opened, or there is no memory
 abbrev pub TellsData : List ℕ → List ℕ → List ℕ → ℕ → Option OpenValue → Type 0

@@ -37,12 +37,12 @@ abbrev pub IsOpening : LayoutValue → LayoutValue → Option OpenValue → Type
 IsOpening own l slave = IsOpeningBy (sha256 (pages_decided own)) l slave
 
 -- UTF-8 of at most 65,536 bytes
-abbrev pub IsText : List ℕ → Type 0
-IsText text = (length text ≤ 65536) × IsUtf8 text
+abbrev pub IsLayoutText : List ℕ → Type 0
+IsLayoutText text = (length text ≤ 65536) × IsUtf8 text
 
 -- what is no such text, and the number of that fault: 16 where there are more bytes, and else 8
-abbrev pub IsNoText : List ℕ → ℕ → Type 0
-IsNoText text n = ((65536 < length text) × (n ≡ 16)) ⊎ ((length text ≤ 65536) × (¬ IsUtf8 text) × (n ≡ 8))
+abbrev pub IsTextFault : List ℕ → ℕ → Type 0
+IsTextFault text n = ((65536 < length text) × (n ≡ 16)) ⊎ ((length text ≤ 65536) × (¬ IsUtf8 text) × (n ≡ 8))
 
 -- of a text whose segments have these files: 1 where it is no document, and then the number of the fault that it has; or 7 where an
 -- allocation failed
@@ -50,27 +50,27 @@ abbrev pub IsFaultIn : List File → List ℕ → ℕ → Type 0
 IsFaultIn files text n = (IsNoDocument text × (n ≡ 1)) ⊎ ((e : ConfigError) × HasFaultWith files text e × (n ≡ number_of e)) ⊎ (n ≡ 7)
 
 -- the number of a fault of this text, whose segments have these files
-abbrev pub IsFaultWith : List File → List ℕ → ℕ → Type 0
-IsFaultWith files text n = IsNoText text n ⊎ (IsText text × IsFaultIn files text n)
+abbrev pub IsOpeningFault : List File → List ℕ → ℕ → Type 0
+IsOpeningFault files text n = IsTextFault text n ⊎ (IsLayoutText text × IsFaultIn files text n)
 
 -- the text describes a layout with these files, and the slave is that of its opening
 abbrev pub IsOpenedBy : List File → List ℕ → Option OpenValue → Type 0
-IsOpenedBy files text slave = (l : LayoutValue) × IsText text × HasLayoutWith files text l × IsOpening l l slave
+IsOpenedBy files text slave = (l : LayoutValue) × IsLayoutText text × HasLayoutWith files text l × IsOpening l l slave
 
 -- Opening by this text and these files: the handle owned a slave, 10, and is as it was; or it owned nothing, the text describes a layout,
 -- and the slave is that of its opening; or this is the number of the text's fault, and it still owns nothing.
 abbrev pub OpensWith : List File → List ℕ → ℕ → Option OpenValue → Option OpenValue → Type 0
 OpensWith files text n old new =
     (IsOpen old × (n ≡ 10) × (new ≡ old))
-    ⊎ ((old ≡ None) × (((n ≡ 0) × IsOpenedBy files text new) ⊎ (IsFaultWith files text n × (new ≡ None))))
+    ⊎ ((old ≡ None) × (((n ≡ 0) × IsOpenedBy files text new) ⊎ (IsOpeningFault files text n × (new ≡ None))))
 
 -- Where a text describes a layout with these files, a slave of it is opened, or there is no memory: no other fault is told.
 abbrev pub TellsTextWith : List File → List ℕ → ℕ → Option OpenValue → Type 0
-TellsTextWith files text n new = (l : LayoutValue) → IsText text → HasLayoutWith files text l → (n ≡ 7) ⊎ ((n ≡ 0) × IsOpening l l new)
+TellsTextWith files text n new = (l : LayoutValue) → IsLayoutText text → HasLayoutWith files text l → (n ≡ 7) ⊎ ((n ≡ 0) × IsOpening l l new)
 
 -- the same of a text alone, with no files
 abbrev pub IsFaultOf : List ℕ → ℕ → Type 0
-IsFaultOf text n = IsFaultWith [] text n
+IsFaultOf text n = IsOpeningFault [] text n
 
 abbrev pub IsOpened : List ℕ → Option OpenValue → Type 0
 IsOpened text slave = IsOpenedBy [] text slave
@@ -93,27 +93,27 @@ IsFaultBeside l text file n =
     (e : FlashError) × IsFaultOfBoth l (sha256 (pages_decided l)) (sha256 text) file e × (n ≡ number_of_stored e)
 
 -- the file has these pages of this layout, by what decides which are its, or by the text
-abbrev pub IsFileOf : LayoutValue → List ℕ → List ℕ → List (List ℕ) → Type 0
-IsFileOf l text file pages = (file ≡ file_of (sha256 (pages_decided l)) pages) ⊎ (file ≡ file_of (sha256 text) pages)
+abbrev pub IsStoredFile : LayoutValue → List ℕ → List ℕ → List (List ℕ) → Type 0
+IsStoredFile l text file pages = (file ≡ file_of (sha256 (pages_decided l)) pages) ⊎ (file ≡ file_of (sha256 text) pages)
 
 -- By the file of pages of this layout's sizes a slave is opened with these, and a fault of the file is the one that is told; or there is
 -- no memory.
 abbrev pub TellsPages : LayoutValue → List ℕ → List ℕ → ℕ → Option OpenValue → Type 0
 TellsPages l text file n new =
-    ((pages : List (List ℕ)) → AreReferences pages l → IsFileOf l text file pages → (n ≡ 7) ⊎ ((n ≡ 0) × IsOpening l (with_references pages l) new))
+    ((pages : List (List ℕ)) → AreReferences pages l → IsStoredFile l text file pages → (n ≡ 7) ⊎ ((n ≡ 0) × IsOpening l (with_references pages l) new))
     × ((e : FlashError) → IsFaultOfBoth l (sha256 (pages_decided l)) (sha256 text) file e → (n ≡ 7) ⊎ (n ≡ number_of_stored e))
 
 -- the text describes a layout with these files, and the slave is that of its opening with the stored pages of this file
 abbrev pub IsRestoredBy : List File → List ℕ → List ℕ → Option OpenValue → Type 0
-IsRestoredBy files text file slave = (l : LayoutValue) × IsText text × HasLayoutWith files text l × IsRestoredOf l text file slave
+IsRestoredBy files text file slave = (l : LayoutValue) × IsLayoutText text × HasLayoutWith files text l × IsRestoredOf l text file slave
 
 -- the text describes a layout with these files, and this is the number of the fault of the file of stored pages
 abbrev pub IsFaultOfPages : List File → List ℕ → List ℕ → ℕ → Type 0
-IsFaultOfPages files text file n = (l : LayoutValue) × IsText text × HasLayoutWith files text l × IsFaultBeside l text file n
+IsFaultOfPages files text file n = (l : LayoutValue) × IsLayoutText text × HasLayoutWith files text l × IsFaultBeside l text file n
 
 -- where a text describes a layout with these files, the file of stored pages is told of so
 abbrev pub TellsPagesWith : List File → List ℕ → List ℕ → ℕ → Option OpenValue → Type 0
-TellsPagesWith files text file n new = (l : LayoutValue) → IsText text → HasLayoutWith files text l → TellsPages l text file n new
+TellsPagesWith files text file n new = (l : LayoutValue) → IsLayoutText text → HasLayoutWith files text l → TellsPages l text file n new
 
 -- the same of a text alone
 abbrev pub IsOpenedWith : List ℕ → List ℕ → Option OpenValue → Type 0

@@ -51,11 +51,11 @@ pub record Channel : Type 0 where
   pub unit : ℤ
   pub priority : ℤ
 
-abbrev pub segment_of : SegmentPart → Segment
-segment_of s = record { address = s.address; bytes = s.bytes.items; pages = s.pages }
+abbrev pub segment_of_struct : SegmentPart → Segment
+segment_of_struct s = record { address = s.address; bytes = s.bytes.items; pages = s.pages }
 
-abbrev pub channel_of : EventPart → Channel
-channel_of e = record { name = e.name.items; cycle = e.cycle; unit = e.unit; priority = e.priority }
+abbrev pub channel_of_struct : EventPart → Channel
+channel_of_struct e = record { name = e.name.items; cycle = e.cycle; unit = e.unit; priority = e.priority }
 
 -- Segments whose reference bytes stand one behind the other: 2 pages where nothing is said.
 abbrev pub segments_in : List XcpSegment → List ℕ → List Segment
@@ -68,8 +68,8 @@ abbrev pub channel_in : XcpChannel → Channel
 channel_in e = record { name = text_in e.name; cycle = pos e.cycle; unit = pos e.unit; priority = pos e.priority }
 
 -- the clock: none where a time stamp has no byte; else a tick has one unit where nothing is said
-abbrev pub clock_in : XcpParts → ClockPart
-clock_in c =
+abbrev pub clock_of_struct : XcpParts → ClockPart
+clock_of_struct c =
     if c.clock_size == 0 then record { size = pos 0; unit = pos 0; ticks = pos 1 }
     else record { size = pos c.clock_size; unit = pos c.clock_unit; ticks = pos (or_else 1 c.clock_ticks) }
 
@@ -81,11 +81,11 @@ pub record Says (c : XcpParts) (reference : List ℕ) (p : Parts) : Type 0 where
   pub max_dto : p.max_dto ≡ pos c.max_dto
   pub checksum : p.checksum ≡ pos (or_else 3 c.checksum)
   pub order : p.order ≡ (if c.motorola == 0 then Intel else Motorola)
-  pub clock : p.clock ≡ clock_in c
-  pub segments : map segment_of p.segments.items ≡ segments_in (segments_said c) reference
+  pub clock : p.clock ≡ clock_of_struct c
+  pub segments : map segment_of_struct p.segments.items ≡ segments_in (segments_said c) reference
   pub signals_address : p.signals_address ≡ pos c.signals_address
   pub signals_length : p.signals_length ≡ pos c.signals_bytes
-  pub events : map channel_of p.events.items ≡ map channel_in (channels_said c)
+  pub events : map channel_of_struct p.events.items ≡ map channel_in (channels_said c)
   pub a2l : p.extras.a2l.items ≡ text_in c.a2l
   pub uploads : p.extras.uploads_a2l ≡ is_said c.upload_a2l
   pub overload : p.extras.tells_overload ≡ is_said c.overload_event

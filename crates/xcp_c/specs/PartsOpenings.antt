@@ -2,11 +2,11 @@
 use Rattle.std.specs.Prelude.{◌≡◌, ◌≢◌, ◌⊎◌, ◌≤◌, ◌<◌, ◌+◌, ℕ, List, length, sum_by, Option, Some, None}
 use Rattle.sha2.specs.Sha256.{sha256}
 use Rattle.xcp_flash.specs.Decided.{pages_decided}
-use Rattle.xcp_flash.specs.Restoring.{IsFault, IsRestored}
+use Rattle.xcp_flash.specs.Restoring.{IsFlashFault, IsRestored}
 use Rattle.xcp_flash.specs.declared.fault.FlashError.{FlashError}
 use Rattle.xcp_memory.specs.FaultNumbers.{number_of}
 use Rattle.xcp_memory.specs.Layout.{LayoutValue}
-use Rattle.xcp_memory.specs.LayoutParts.{layout_of}
+use Rattle.xcp_memory.specs.LayoutParts.{layout_from}
 use Rattle.xcp_memory.specs.Limits.{first_fault}
 use Rattle.xcp_memory.specs.declared.key.LayoutFault.{LayoutFault}
 use Rattle.xcp_memory.specs.declared.parts.Parts.{Parts}
@@ -18,22 +18,22 @@ use Rattle.xcp_c.specs.StoredPages.{number_of_stored}
 use Rattle.xcp_c.specs.declared.parts.XcpParts.{XcpParts}
 
 -- the struct has room for what it says, and there are as many reference bytes as the segments have in all
-pub record IsWhole (c : XcpParts) (reference : List ℕ) : Type 0 where
+pub record IsWholeStruct (c : XcpParts) (reference : List ℕ) : Type 0 where
   pub segments : c.segments ≤ 4
   pub channels : c.channels ≤ 8
   pub bytes : sum_by bytes_said (segments_said c) ≡ length reference
 
 -- the struct and the reference bytes describe this layout
 pub record Describes (c : XcpParts) (reference : List ℕ) (l : LayoutValue) : Type 0 where
-  pub whole : IsWhole c reference
+  pub whole : IsWholeStruct c reference
   pub parts : Parts
   pub says : Says c reference parts
   pub lawful : first_fault parts ≡ None
-  pub is : l ≡ layout_of parts
+  pub is : l ≡ layout_from parts
 
 -- they say parts of which this is the first limit that is broken
 pub record Breaks (c : XcpParts) (reference : List ℕ) (e : LayoutFault) : Type 0 where
-  pub whole : IsWhole c reference
+  pub whole : IsWholeStruct c reference
   pub parts : Parts
   pub says : Says c reference parts
   pub first : first_fault parts ≡ Some e
@@ -45,7 +45,7 @@ IsFaultOfParts c reference n =
     (((4 < c.segments) ⊎ (8 < c.channels)) × (n ≡ 6))
     ⊎ ((c.segments ≤ 4) × (c.channels ≤ 8) × (sum_by bytes_said (segments_said c) ≢ length reference) × (n ≡ 18))
     ⊎ ((e : LayoutFault) × Breaks c reference e × (n ≡ 3 + number_of e))
-    ⊎ (IsWhole c reference × (n ≡ 7))
+    ⊎ (IsWholeStruct c reference × (n ≡ 7))
 
 -- they describe a layout, and the slave is that of its opening
 abbrev pub IsOpenedByParts : XcpParts → List ℕ → Option OpenValue → Type 0
@@ -68,7 +68,7 @@ IsOpenedByPartsWith c reference file slave =
 -- they describe a layout, and this is the number of the file's fault beside it
 abbrev pub IsFaultOfFileOfParts : XcpParts → List ℕ → List ℕ → ℕ → Type 0
 IsFaultOfFileOfParts c reference file n =
-    (l : LayoutValue) × Describes c reference l × (e : FlashError) × IsFault l (sha256 (pages_decided l)) file e × (n ≡ number_of_stored e)
+    (l : LayoutValue) × Describes c reference l × (e : FlashError) × IsFlashFault l (sha256 (pages_decided l)) file e × (n ≡ number_of_stored e)
 
 -- The same by these parts and this file of stored pages, whose faults come behind the parts'.
 abbrev pub OpensPartsStored : XcpParts → List ℕ → List ℕ → ℕ → Option OpenValue → Option OpenValue → Type 0

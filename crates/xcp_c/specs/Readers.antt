@@ -22,7 +22,7 @@ pub record Acquired (taken : Taken) (old new : Option ReaderEnd) : Type 0 where
   pub does : AcquireDoes taken before after
 
 -- What a read of the bytes from `at` on does: they are those of the image that the reader holds.
-pub record Reads (at : ℕ) (old : Option ReaderEnd) (out : List ℕ) (new : Option ReaderEnd) : Type 0 where
+pub record ReadsImage (at : ℕ) (old : Option ReaderEnd) (out : List ℕ) (new : Option ReaderEnd) : Type 0 where
   pub before : ReaderEnd
   pub after : ReaderEnd
   pub was : old ≡ Some before

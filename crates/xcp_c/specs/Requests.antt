@@ -7,7 +7,7 @@ use Rattle.xcp_slave.specs.Step.{Answers}
 use Rattle.xcp_slave.specs.Outcomes.{Answer}
 use Rattle.xcp_slave.specs.declared.request.Request.{Request}
 use Rattle.xcp_slave.specs.declared.request.Request.TheVariants as requests
-use Rattle.xcp_c.specs.Answered.{IsTold}
+use Rattle.xcp_c.specs.Answered.{IsAnswerInC}
 use Rattle.xcp_c.specs.OpenValue.{OpenValue}
 use Rattle.xcp_c.specs.declared.answer.XcpAnswer.{XcpAnswer}
 
@@ -23,7 +23,7 @@ pub record Submitted (q : Request) (old : Option OpenValue) (told : XcpAnswer) (
   pub published : Publishes before.controller after.controller
   pub spare : after.controller.spare ≡ before.controller.spare
   pub digest : after.digest ≡ before.digest
-  pub tells : IsTold answer told
+  pub tells : IsAnswerInC answer told
 
 -- the same of a command packet of these bytes
 abbrev pub Commanded : List ℕ → Option OpenValue → XcpAnswer → Option OpenValue → Type 0
@@ -38,7 +38,7 @@ abbrev pub Handed : ℕ → List ℕ → Option OpenValue → XcpAnswer → Opti
 Handed place bytes old told new = (signals : ArrayVec ℕ) × (signals.items ≡ bytes) × Submitted (requests.Signals place signals) old told new
 
 -- So many buffers of the bank beside the current one are held; nothing else changes but the history of the writer's looks.
-pub record Counted (n : ℕ) (old new : Option OpenValue) : Type 0 where
+pub record CountsHeld (n : ℕ) (old new : Option OpenValue) : Type 0 where
   pub before : OpenValue
   pub after : OpenValue
   pub was : old ≡ Some before

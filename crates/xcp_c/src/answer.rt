@@ -2,7 +2,7 @@
 ghost use Rattle.std.specs.Prelude.{◌≡◌, ◌≤◌, ◌⊎◌, IsTrue, Some, false, length, slice_get, take};
 ghost use Rattle.xcp_packet.specs.PacketTrains.{block_packets};
 ghost use Rattle.xcp_slave.specs.AnswerInBytes.{answer_in};
-ghost use Rattle.xcp_c.specs.Answered.{IsTold, HasNoWidth, packets_told};
+ghost use Rattle.xcp_c.specs.Answered.{IsAnswerInC, HasNoWidth, packets_told};
 
 use xcp_packet::{Packet, Train, Width};
 use xcp_slave::{Cut, Told};
@@ -42,8 +42,8 @@ impl XcpPacket {
 }
 
 impl XcpAnswer {
-    pub(crate) fn tell(&mut self, told: Told, packet: &Packet)
-        ensures { IsTold (answer_in told packet.now) self.new }
+    pub(crate) fn put_told(&mut self, told: Told, packet: &Packet)
+        ensures { IsAnswerInC (answer_in told packet.now) self.new }
     {
         match &told {
             Told::Silent => self.tell_count(0, 0),

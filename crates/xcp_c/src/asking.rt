@@ -2,7 +2,7 @@
 ghost use Rattle.std.specs.Prelude.{◌≡◌, ◌⊎◌, MatchOption, None, length};
 ghost use Rattle.xcp_memory.specs.EcuImage.{image_size};
 ghost use Rattle.xcp_slave.specs.SlaveValue.{layout_of};
-ghost use Rattle.xcp_c.specs.Requests.{Counted};
+ghost use Rattle.xcp_c.specs.Requests.{CountsHeld};
 
 use crate::slave_handle::SlaveHandle;
 use std::alloc::Global;
@@ -62,7 +62,7 @@ pub extern "C" fn xcp_pending(alloc: Global, slave: &mut SlaveHandle) -> u16
 /// slave.
 #[unsafe(no_mangle)]
 pub extern "C" fn xcp_held(alloc: Global, slave: &mut SlaveHandle) -> u8
-    ensures { Counted result slave.old.value slave.new.value
+    ensures { CountsHeld result slave.old.value slave.new.value
         ⊎ ((result ≡ 0) × (slave.old.value ≡ None) × (slave.new.value ≡ None)) }
 {
     if !slave.is_open() {

@@ -4,7 +4,7 @@ ghost use Rattle.xcp_config.specs.ConfigText.{HasLayoutWith};
 ghost use Rattle.xcp_config.specs.TableLayout.{File};
 ghost use Rattle.xcp_c.specs.DataOpenings.{IsFaultOfData, IsFaultOfDataPages, IsOpenedByData, IsRestoredByData, OpensByData, OpensDataStored, TellsData, TellsDataPages};
 ghost use Rattle.xcp_c.specs.GivenFiles.{AreGiven};
-ghost use Rattle.xcp_c.specs.Openings.{IsText};
+ghost use Rattle.xcp_c.specs.Openings.{IsLayoutText};
 
 use crate::given_files::files_of;
 use crate::opening::{OPEN, hold, layout_of, restore_pages, text_of};
@@ -103,7 +103,7 @@ fn open_stored(
 /// the stack is free again while the slave is made.)
 #[inline(never)]
 fn read(alloc: Global, text: &[u8], sizes: &[u32], bytes: &[u8]) -> Result<Layout, u8>
-    ensures layout { IfOk result (λ l. (files : List File) × AreGiven text.now sizes.now bytes.now files × IsText text.now × HasLayoutWith files text.now l) }
+    ensures layout { IfOk result (λ l. (files : List File) × AreGiven text.now sizes.now bytes.now files × IsLayoutText text.now × HasLayoutWith files text.now l) }
     ensures fault { IfErr result (λ n. IsFaultOfData text.now sizes.now bytes.now n) }
 {
     let text = match text_of(text) {

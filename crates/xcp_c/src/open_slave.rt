@@ -159,7 +159,7 @@ fn spell(slave: &Slave, digest: &[u8; 32], pages: &mut References, file: &mut Ve
     ensures sized { AreReferences pages.new (layout_of slave.now) }
     ensures room { file_size (map (λ page. length page) pages.new) ≤ vec_capacity file.new }
 {
-    slave.audit();
+    slave.known();
     pages.take(slave);
     let Ok(()) = pages.file(digest, file) else {
         unreachable!()

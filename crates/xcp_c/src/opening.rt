@@ -6,7 +6,7 @@ ghost use Rattle.xcp_flash.specs.Decided.{pages_decided};
 ghost use Rattle.xcp_flash.specs.References.{AreReferences, with_references};
 ghost use Rattle.xcp_flash.specs.Restoring.{IsFaultOfBoth, IsRestoredByEither};
 ghost use Rattle.xcp_flash.specs.declared.fault.FlashError.{FlashError};
-ghost use Rattle.xcp_c.specs.Openings.{IsFaultBeside, IsFaultIn, IsFaultOf, IsFaultOfFile, IsFileOf, IsNoText, IsOpened, IsOpenedWith, IsOpening, IsOpeningBy, IsText, OpensBy, OpensReader, OpensStored, TellsFile, TellsText};
+ghost use Rattle.xcp_c.specs.Openings.{IsFaultBeside, IsFaultIn, IsFaultOf, IsFaultOfFile, IsStoredFile, IsTextFault, IsOpened, IsOpenedWith, IsOpening, IsOpeningBy, IsLayoutText, OpensBy, OpensReader, OpensStored, TellsFile, TellsText};
 ghost use Rattle.xcp_c.specs.StoredPages.{number_of_stored};
 
 use crate::open_slave::OpenSlave;
@@ -157,7 +157,7 @@ fn open_stored(alloc: Global, text: &[u8], file: &[u8]) -> Result<SlaveHandle, u
 /// while the slave is made.)
 #[inline(never)]
 fn read(alloc: Global, text: &[u8]) -> Result<Layout, u8>
-    ensures layout { IfOk result (λ l. IsText text.now × HasLayout text.now l) }
+    ensures layout { IfOk result (λ l. IsLayoutText text.now × HasLayout text.now l) }
     ensures fault { IfErr result (λ n. IsFaultOf text.now n) }
 {
     match text_of(text) {
@@ -168,8 +168,8 @@ fn read(alloc: Global, text: &[u8]) -> Result<Layout, u8>
 
 /// The text that bytes are, or the number of their fault.
 pub(crate) fn text_of(bytes: &[u8]) -> Result<&str, u8>
-    ensures text { IfOk result (λ text. IsText bytes.now × (text.now ≡ bytes.now)) }
-    ensures fault { IfErr result (λ n. IsNoText bytes.now n) }
+    ensures text { IfOk result (λ text. IsLayoutText bytes.now × (text.now ≡ bytes.now)) }
+    ensures fault { IfErr result (λ n. IsTextFault bytes.now n) }
 {
     if bytes.len() > TEXT_BYTES {
         return Err(LONG_TEXT);
@@ -196,7 +196,7 @@ pub(crate) fn layout_of(alloc: Global, text: &str, files: &[DataFile]) -> Result
 pub(crate) fn restore_pages(layout: &mut Layout, text: &[u8], file: &[u8]) -> Result<[u8; 32], u8>
     ensures decided { IfOk result (λ d. d ≡ sha256 (pages_decided layout.old)) }
     ensures restored { OnOk result (IsRestoredByEither layout.old (sha256 (pages_decided layout.old)) (sha256 text.now) file.now layout.new) }
-    ensures whole { (pages : List (List ℕ)) → AreReferences pages layout.old → IsFileOf layout.old text.now file.now pages
+    ensures whole { (pages : List (List ℕ)) → AreReferences pages layout.old → IsStoredFile layout.old text.now file.now pages
         → IsOk result × (layout.new ≡ with_references pages layout.old) }
     ensures fault { IfErr result (λ n. IsFaultBeside layout.old text.now file.now n) }
     ensures told { (e : FlashError) → IsFaultOfBoth layout.old (sha256 (pages_decided layout.old)) (sha256 text.now) file.now e

@@ -1,7 +1,7 @@
 //! A layout as a C program says it, without a text.
 ghost use Rattle.std.specs.Prelude.{◌≡◌, ◌≢◌, ◌≤◌, IfOk, MatchBool, length, map, sum_by};
 ghost use Rattle.std.specs.List.{position, position_or_len};
-ghost use Rattle.xcp_c.specs.PartsInC.{Says, bytes_said, is_zero, channel_in, channel_of, clock_in, or_else, segment_of, segments_in, segments_said, text_in};
+ghost use Rattle.xcp_c.specs.PartsInC.{Says, bytes_said, is_zero, channel_in, channel_of_struct, clock_of_struct, or_else, segment_of_struct, segments_in, segments_said, text_in};
 
 use std::alloc::{AllocError, Global};
 use xcp_memory::{Class, ClockPart, EventPart, ExtrasPart, NO_CLOCK, Parts, SegmentPart};
@@ -113,7 +113,7 @@ fn segments_of(
     reference: &[u8],
 ) -> Result<Vec<SegmentPart>, AllocError>
     requires { sum_by bytes_said segments.now ≤ length reference.now }
-    ensures { IfOk result (λ made. map segment_of made.items ≡ segments_in segments.now reference.now) }
+    ensures { IfOk result (λ made. map segment_of_struct made.items ≡ segments_in segments.now reference.now) }
 {
     let mut made = Vec::new(alloc);
     let mut rest = reference;
@@ -131,7 +131,7 @@ fn segments_of(
 
 /// An event channel.
 fn channel_of(alloc: Global, channel: &XcpChannel) -> Result<EventPart, AllocError>
-    ensures { IfOk result (λ made. channel_of made ≡ channel_in channel.now) }
+    ensures { IfOk result (λ made. channel_of_struct made ≡ channel_in channel.now) }
 {
     Ok(EventPart {
         name: text_of(alloc, &channel.name)?,
@@ -143,7 +143,7 @@ fn channel_of(alloc: Global, channel: &XcpChannel) -> Result<EventPart, AllocErr
 
 /// The event channels.
 fn channels_of(alloc: Global, channels: &[XcpChannel]) -> Result<Vec<EventPart>, AllocError>
-    ensures { IfOk result (λ made. map channel_of made.items ≡ map channel_in channels.now) }
+    ensures { IfOk result (λ made. map channel_of_struct made.items ≡ map channel_in channels.now) }
 {
     let mut made = Vec::new(alloc);
     for channel in channels {
@@ -154,7 +154,7 @@ fn channels_of(alloc: Global, channels: &[XcpChannel]) -> Result<Vec<EventPart>,
 
 /// The clock.
 fn clock_of(parts: &XcpParts) -> ClockPart
-    ensures { result ≡ clock_in parts.now }
+    ensures { result ≡ clock_of_struct parts.now }
 {
     if parts.clock_size == 0 {
         return NO_CLOCK;

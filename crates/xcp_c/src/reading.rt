@@ -3,7 +3,7 @@ ghost use Rattle.std.specs.Prelude.{◌≡◌, ◌+◌, ◌<◌, ◌≤◌, ◌�
 ghost use Rattle.xcp_bank.specs.BankId.{image_bytes};
 ghost use Rattle.xcp_bank.specs.BankEnds.{Holds};
 ghost use Rattle.xcp_bank.specs.declared.taken.Taken.TheVariants.{Newer, Same};
-ghost use Rattle.xcp_c.specs.Readers.{Acquired, CanNotRead, HoldsNothing, Numbered, Reads};
+ghost use Rattle.xcp_c.specs.Readers.{Acquired, CanNotRead, HoldsNothing, Numbered, ReadsImage};
 
 use crate::reader_handle::ReaderHandle;
 use std::alloc::Global;
@@ -39,7 +39,7 @@ pub extern "C" fn xcp_read(
     at: usize,
     out: &mut [u8],
 ) -> bool
-    ensures read { IsTrue result → Reads at reader.old.value out.new reader.new.value }
+    ensures read { IsTrue result → ReadsImage at reader.old.value out.new reader.new.value }
     ensures none { result ≡ false → CanNotRead at (length out.old) reader.old.value
         × (reader.new.value ≡ reader.old.value) × (out.new ≡ out.old) }
 {

@@ -31,7 +31,7 @@ fn submit(alloc: Global, slave: &mut SlaveHandle, asked: Asked<'_>, answer: &mut
     }
     let mut opened = mem::replace(slave, SlaveHandle::closed(alloc)).into_box();
     let told = opened.answer(asked);
-    answer.tell(told, opened.packet());
+    answer.put_told(told, opened.packet());
     *slave = SlaveHandle::of(opened);
     true
 }

@@ -88,7 +88,7 @@ pub extern "C" fn xcp_feed(
     let cut = opened.feed_into(piece, &mut packet);
     *framer = FramerHandle::of(opened);
     fed.used = cut.used;
-    fed.tell(cut.brought, &packet);
+    fed.put_brought(cut.brought, &packet);
     true
 }
 
@@ -103,7 +103,7 @@ pub extern "C" fn xcp_framer_close(alloc: Global, framer: &mut FramerHandle)
 }
 
 impl XcpFed {
-    fn tell(&mut self, brought: Brought, packet: &Packet)
+    fn put_brought(&mut self, brought: Brought, packet: &Packet)
         ensures used { self.new.used ≡ self.old.used }
         ensures packets { packets_fed self.new ≡ packets_given (got_in brought packet.now) }
         ensures more { self.new.got ≡ 0 → brought ≡ Brought.More }

@@ -65,6 +65,7 @@ pub record IsFiled (files : List File) (ds : List Data) (i : ℕ) (d : Data) : T
   pub below : i < length (filed files ds)
   pub is : (get_or files i None, d) ≡ get_or (filed files ds) i (get_or files i None, d)
 
+-- table i with the file of its number stands at place i of the tables with their files
 pub filed_at : (files : List File) (ds : List Data) (i : ℕ) (d : Data) → i < length ds → d ≡ get_or ds i d → IsFiled files ds i d
 filed_at files ds i d h e = record { below = rw (length-filed files ds) h; is = at files ds i d h e }
   where

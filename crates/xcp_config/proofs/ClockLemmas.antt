@@ -16,6 +16,7 @@ pub missing : {A : Type 0} (f : A → Data) (o : Option A) (v : Option Data) →
 missing f None v h e = sym h
 missing f (Some x) v h e = cc
 
+-- where something was read of an optional value, the value is there
 pub present : {A : Type 0} (f : A → Data) (o : Option A) (v : Option Data) → option_map f o ≡ v → is_some o ≡ true → (d : Data) × (v ≡ Some d)
 present f None v h e = cc
 present f (Some x) v h e = (f x, sym h)
@@ -35,8 +36,10 @@ are_checks : (t d : Data) → clock_key t ≡ Some d → first_holding (clock_ch
 unfolding clock_checks
 are_checks t d e = ap (λ (v : Option Data). first_holding (checks_of_clock v)) e
 
+-- where the table `clock` fails a check as a table, this is the first fault
 pub no_table : (t d : Data) (e : ConfigError) → clock_key t ≡ Some d → first_holding (table_checks key.Clock (clock_key t)) ≡ Some e → first_holding (clock_checks t) ≡ Some e
 no_table t d e is h = are_checks t d is ∙ holding_left (table_checks key.Clock (Some d)) (clock_key_checks d) e (ap (λ (v : Option Data). first_holding (table_checks key.Clock v)) (sym is) ∙ h)
 
+-- where it fails none as a table, its first fault is that of its keys, if there is one
 pub by_keys : (t d : Data) (r : Option ConfigError) → clock_key t ≡ Some d → first_holding (table_checks key.Clock (clock_key t)) ≡ None → first_holding (clock_key_checks d) ≡ r → first_holding (clock_checks t) ≡ r
 by_keys t d r is h keys = are_checks t d is ∙ (none_left (table_checks key.Clock (Some d)) (clock_key_checks d) (ap (λ (v : Option Data). first_holding (table_checks key.Clock v)) (sym is) ∙ h) ∙ keys)

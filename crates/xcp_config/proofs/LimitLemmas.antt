@@ -15,7 +15,7 @@ use Rattle.xcp_memory.specs.declared.SegmentPart.{SegmentPart}
 use Rattle.xcp_memory.specs.declared.EventPart.{EventPart}
 use Rattle.xcp_memory.specs.declared.ClockPart.{ClockPart}
 use Rattle.xcp_memory.specs.ClassLimits.{limits_of}
-use Rattle.xcp_memory.specs.LayoutParts.{number, size, layout_of, areas, segment_of_part, event_of_part}
+use Rattle.xcp_memory.specs.LayoutParts.{number, size, layout_from, areas, segment_of_part, event_of_part}
 use Rattle.xcp_memory.specs.Layout.{SegmentValue, EventValue, ExtrasValue}
 use Rattle.xcp_memory.specs.Limits.{Limit, first_fault as first_limit, clock_limits, own_limits, segment_limits, segments_limits, limits_in, signals_limits, event_limits, events_limits, apart_limits, is_within, is_printable, is_text, is_text_or_none, is_address, ends_in_time, text_limit, number_limit, least_limit, count_limits, id_limit, max_cto_limit, max_dto_limit, segment_counts, address_limit, pages_limit, signals_address_limit, signals_length_limit, event_counts, name_limit, cycle_limit, unit_limit, priority_limit}
 use Rattle.xcp_memory.specs.declared.LayoutFault.{LayoutFault}
@@ -23,9 +23,9 @@ use Rattle.xcp_config.specs.declared.config_error.ConfigError.{ConfigError}
 use Rattle.xcp_config.specs.declared.config_error.ConfigError.TheVariants as error
 use Rattle.xcp_packet.specs.Rows.{first_holding}
 use Rattle.xcp_config.specs.FaultNumbers.{error_of}
-use Rattle.xcp_config.specs.TomlValues.{text_of, integer_of, bytes_of, members_of, is_array_of_tables, byte_orders, checksums, classes, overloads}
-use Rattle.xcp_config.specs.TableLayout.{layout_in, byte_order_of, checksum_of, class_of, class_in, a2l_in, File, Filed, data_by, file_key, segment_tables, clock_key, clock_in, clock_setting, clock_part, segments_of, signals_of, events_of, address_of, size_of, pages_of, length_of, setting, segment_in, event_in}
-use Rattle.xcp_config.specs.private.PartsRead.{Reads, Segment, Event, segment_read, segment_written, event_read, event_written}
+use Rattle.xcp_config.specs.TomlValues.{value_text, integer_of, bytes_in_hex, members_of, is_array_of_tables, byte_orders, checksums, classes, overloads}
+use Rattle.xcp_config.specs.TableLayout.{layout_in, byte_order_of, checksum_in_table, class_of, class_in, a2l_in, File, Filed, data_by, file_key, segment_tables, clock_key, clock_in, clock_setting, clock_part, segments_of, signals_table, event_tables, address_of, size_of, pages_of, length_of, setting, segment_in, event_in}
+use Rattle.xcp_config.specs.private.PartsRead.{ReadsPart, ReadSegment, Event, segment_read, segment_in_parts, event_read, event_written}
 use Rattle.xcp_config.specs.TableChecks.{text_checks, name_checks, integer_checks, boolean_checks, if_there, data_checks, name_of_file_checks, content_checks, checks_of_bytes, bytes_checks, array_checks, table_checks, extras_checks, size_check, clock_key_checks, checks_of_clock, clock_checks, own_checks, size_checks, segment_checks, checks_in, segments_checks, end_checks, place_checks, signals_checks, event_checks, events_checks, limit_check}
 use Rattle.xcp_packet.proofs.RowTestLemmas.{none_both, none_left}
 use Rattle.xcp_config.proofs.ArrayMemberLemmas.{length-filed}
@@ -70,9 +70,9 @@ one_passes true e h = refl
 one_passes false e h = cc
 
 -- the range of a text, of an integer and of data that pass
-pub text_good : (k : Key) (most : ℕ) (v : Option Data) → first_holding (text_checks k (text_limit most k) v) ≡ None → is_text most (text_of v) ≡ true
+pub text_good : (k : Key) (most : ℕ) (v : Option Data) → first_holding (text_checks k (text_limit most k) v) ≡ None → is_text most (value_text v) ≡ true
 unfolding text_checks
-text_good k most v h = third_passes (is_some v) (is_some (option_and_then as_str v)) (is_text most (text_of v)) (error.Missing k) (error.Kind k) (error.Range k) h
+text_good k most v h = third_passes (is_some v) (is_some (option_and_then as_str v)) (is_text most (value_text v)) (error.Missing k) (error.Kind k) (error.Range k) h
 
 -- an integer that passes its checks is within its limits
 pub integer_good : (k : Key) (least most : ℕ) (v : Option Data) → first_holding (integer_checks k (number_limit least most k) v) ≡ None → is_within least most (integer_of v) ≡ true
@@ -80,9 +80,9 @@ unfolding integer_checks
 integer_good k least most v h = third_passes (is_some v) (is_some (option_and_then as_integer v)) (is_within least most (integer_of v)) (error.Missing k) (error.Kind k) (error.Range k) h
 
 -- data that pass their checks have one byte or more
-pub data_good : (k : Key) (v : Option Data) → first_holding (data_checks k (least_limit k) v) ≡ None → nat_le 1 (length (bytes_of v)) ≡ true
+pub data_good : (k : Key) (v : Option Data) → first_holding (data_checks k (least_limit k) v) ≡ None → nat_le 1 (length (bytes_in_hex v)) ≡ true
 unfolding data_checks
-data_good k v h = third_passes (is_some v) (is_some (option_and_then as_str v)) (nat_le 1 (length (bytes_of v))) (error.Missing k) (error.Kind k) (error.Range k) h
+data_good k v h = third_passes (is_some v) (is_some (option_and_then as_str v)) (nat_le 1 (length (bytes_in_hex v))) (error.Missing k) (error.Kind k) (error.Range k) h
 
 -- how many members an array has that passes
 array_good : (k : Key) (most : ℕ) (v : Option Data) → first_holding (array_checks k (count_limits most k) v) ≡ None → (nat_le 1 (length (members_of v)) ≡ true) × (nat_le (length (members_of v)) most ≡ true)
@@ -97,9 +97,9 @@ other_two false b c h = cc
 some_or_none : (most : ℕ) (bytes : List ℕ) → is_text most bytes ≡ true → is_text_or_none most bytes ≡ true
 some_or_none most bytes h = other_two (nat_le 1 (length bytes)) (nat_le (length bytes) most) (list_all is_printable bytes) h
 
-name_kept : (v : Option Data) → first_holding (if_there (text_checks key.A2l (text_limit 64 key.A2l)) v) ≡ None → is_text_or_none 64 (text_of v) ≡ true
+name_kept : (v : Option Data) → first_holding (if_there (text_checks key.A2l (text_limit 64 key.A2l)) v) ≡ None → is_text_or_none 64 (value_text v) ≡ true
 name_kept None h = refl
-name_kept (Some d) h = some_or_none 64 (text_of (Some d)) (text_good key.A2l 64 (Some d) h)
+name_kept (Some d) h = some_or_none 64 (value_text (Some d)) (text_good key.A2l 64 (Some d) h)
 
 a2l_kept : (t : Data) → first_holding (extras_checks t) ≡ None → is_text_or_none 64 (a2l_in t) ≡ true
 unfolding extras_checks
@@ -143,14 +143,14 @@ own_by : (a b c d e : Bool) (f g k l m : LayoutFault) (r : Option LayoutFault) �
 own_by a b c d e f g k l m r h i j n o p = rw (h, i, j, n, o, p) refl
 
 -- the slave's own values
-own_kept : (p : Parts) (files : List File) (t : Data) → Reads p files t → first_holding (own_checks t) ≡ None → first_holding (own_limits p) ≡ None
+own_kept : (p : Parts) (files : List File) (t : Data) → ReadsPart p files t → first_holding (own_checks t) ≡ None → first_holding (own_limits p) ≡ None
 unfolding own_checks
 own_kept p files t r h =
     let a = text_checks key.Id id_limit (get (codes "id") t) in
     let b = integer_checks key.MaxCto max_cto_limit (get (codes "max_cto") t) in
     let c = integer_checks key.MaxDto max_dto_limit (get (codes "max_dto") t) in
     let d = name_checks key.ByteOrder byte_orders (byte_order_of t) in
-    let e = name_checks key.Checksum checksums (checksum_of t) in
+    let e = name_checks key.Checksum checksums (checksum_in_table t) in
     let seven = none_both (a ++ b ++ c ++ d ++ e ++ extras_checks t ++ clock_checks t) (name_checks key.Class classes (class_of t)) h in
     let all = none_both (a ++ b ++ c ++ d ++ e ++ extras_checks t) (clock_checks t) seven.0 in
     let five = none_both (a ++ b ++ c ++ d ++ e) (extras_checks t) all.0 in
@@ -170,11 +170,11 @@ sum_map f g n [] = refl
 sum_map f g n (x ∷ xs) = sum_map f g (n + f (g x)) xs
 
 -- as many bytes were read as are written, up to each place
-sums : (ss : List SegmentPart) (ds : List Filed) (n : ℕ) → map segment_read ss ≡ map segment_written ds → sum_by size (take n ss) ≡ sum_by size_of (take n ds)
+sums : (ss : List SegmentPart) (ds : List Filed) (n : ℕ) → map segment_read ss ≡ map segment_in_parts ds → sum_by size (take n ss) ≡ sum_by size_of (take n ds)
 sums ss ds n e =
-    let f = sym (take-map segment_read n ss) ∙ ap (take n) e ∙ take-map segment_written n ds in
-    let bytes : Segment → ℕ = λ s. length s.bytes in
-    sum_map bytes segment_read 0 (take n ss) ∙ ap (sum_by bytes) f ∙ sym (sum_map bytes segment_written 0 (take n ds))
+    let f = sym (take-map segment_read n ss) ∙ ap (take n) e ∙ take-map segment_in_parts n ds in
+    let bytes : ReadSegment → ℕ = λ s. length s.bytes in
+    sum_map bytes segment_read 0 (take n ss) ∙ ap (sum_by bytes) f ∙ sym (sum_map bytes segment_in_parts 0 (take n ds))
 
 -- the bytes of a segment that pass are one or more
 content_good : (i : ℕ) (file : File) → first_holding (content_checks i file) ≡ None → nat_le 1 (length (unwrap_or file [])) ≡ true
@@ -190,7 +190,7 @@ unfolding bytes_checks
 bytes_good i d h = bytes_by i (file_key d.1) d h
 
 -- one segment
-segment_kept : (class : Class) (i m n : ℕ) (s : SegmentPart) (d : Filed) → m ≡ n → segment_read s ≡ segment_written d → first_holding (segment_checks class i n d) ≡ None → first_holding (segment_limits class i m s) ≡ None
+segment_kept : (class : Class) (i m n : ℕ) (s : SegmentPart) (d : Filed) → m ≡ n → segment_read s ≡ segment_in_parts d → first_holding (segment_checks class i n d) ≡ None → first_holding (segment_limits class i m s) ≡ None
 unfolding segment_checks
 segment_kept class i m n s d q e h =
     let a = integer_checks (key.Address i) (address_limit i) (get (codes "address") d.1) in
@@ -201,27 +201,27 @@ segment_kept class i m n s d q e h =
     let two = none_both (a ++ b) c three.0 in
     let one = none_both a b two.0 in
     let place = two_pass (nat_le n (limits_of class).bytes) (ends_in_time (address_of d.1) (size_of d)) (error.TooMany (key.Data i)) (error.Range (key.Address i)) two.1 in
-    let address : s.address ≡ address_of d.1 = ap (λ (x : Segment). x.address) e in
-    let bytes : size s ≡ size_of d = ap (λ (x : Segment). length x.bytes) e in
+    let address : s.address ≡ address_of d.1 = ap (λ (x : ReadSegment). x.address) e in
+    let bytes : size s ≡ size_of d = ap (λ (x : ReadSegment). length x.bytes) e in
     let first = ap is_address address ∙ integer_good (key.Address i) 0 0xFFFF_FFFE (get (codes "address") d.1) one.0 in
     let second = ap (nat_le 1) bytes ∙ bytes_good i d one.1 in
     let third = ap (λ k. nat_le k (limits_of class).bytes) q ∙ place.0 in
     let fourth : ends_in_time s.address (size s) ≡ true = rw (address, bytes) place.1 in
-    let fifth = ap (λ (x : Segment). is_within 2 4 x.pages) e ∙ integer_good (key.Pages i) 2 4 (pages_of d.1) three.1 in
+    let fifth = ap (λ (x : ReadSegment). is_within 2 4 x.pages) e ∙ integer_good (key.Pages i) 2 4 (pages_of d.1) three.1 in
     five_kept _ _ _ _ _ _ _ _ _ _ first second third fourth fifth
 
 -- the segments from one of them on
-segments_from : (class : Class) (ss : List SegmentPart) (ds : List Filed) → ((n : ℕ) → sum_by size (take n ss) ≡ sum_by size_of (take n ds)) → (i : ℕ) (xs : List SegmentPart) (ys : List Filed) → map segment_read xs ≡ map segment_written ys → first_holding (flat_map (checks_in class ds) (enumerate_from i ys)) ≡ None → first_holding (flat_map (limits_in class ss) (enumerate_from i xs)) ≡ None
+segments_from : (class : Class) (ss : List SegmentPart) (ds : List Filed) → ((n : ℕ) → sum_by size (take n ss) ≡ sum_by size_of (take n ds)) → (i : ℕ) (xs : List SegmentPart) (ys : List Filed) → map segment_read xs ≡ map segment_in_parts ys → first_holding (flat_map (checks_in class ds) (enumerate_from i ys)) ≡ None → first_holding (flat_map (limits_in class ss) (enumerate_from i xs)) ≡ None
 segments_from class ss ds q i [] ys e h = refl
 segments_from class ss ds q i (x ∷ xs) [] e h = cc
 segments_from class ss ds q i (x ∷ xs) (y ∷ ys) e h =
-    let head : segment_read x ≡ segment_written y = cc in
-    let tail : map segment_read xs ≡ map segment_written ys = cc in
+    let head : segment_read x ≡ segment_in_parts y = cc in
+    let tail : map segment_read xs ≡ map segment_in_parts ys = cc in
     let both = none_both (checks_in class ds (i, y)) (flat_map (checks_in class ds) (enumerate_from (i + 1) ys)) h in
     let here = segment_kept class i (sum_by size (take (i + 1) ss)) (sum_by size_of (take (i + 1) ds)) x y (q (i + 1)) head both.0 in
     none_left (limits_in class ss (i, x)) (flat_map (limits_in class ss) (enumerate_from (i + 1) xs)) here ∙ segments_from class ss ds q (i + 1) xs ys tail both.1
 
-segments_kept : (p : Parts) (files : List File) (t : Data) → Reads p files t → first_holding (segments_checks files t) ≡ None → first_holding (segments_limits p.class p.segments.items) ≡ None
+segments_kept : (p : Parts) (files : List File) (t : Data) → ReadsPart p files t → first_holding (segments_checks files t) ≡ None → first_holding (segments_limits p.class p.segments.items) ≡ None
 unfolding segments_checks
 segments_kept p files t r h =
     let ss = p.segments.items in
@@ -230,7 +230,7 @@ segments_kept p files t r h =
     let most = (limits_of class).segments in
     let both = none_both (array_checks key.Segment (segment_counts class) (get (codes "segment") t)) (flat_map (checks_in class ds) (enumerate_from 0 ds)) h in
     let counts = array_good key.Segment most (get (codes "segment") t) both.0 in
-    let n : length ss ≡ length (segment_tables t) = sym (length-map ss segment_read) ∙ ap length r.segments ∙ length-map ds segment_written ∙ length-filed files (segment_tables t) in
+    let n : length ss ≡ length (segment_tables t) = sym (length-map ss segment_read) ∙ ap length r.segments ∙ length-map ds segment_in_parts ∙ length-filed files (segment_tables t) in
     let each = segments_from class ss ds (λ k. sums ss ds k r.segments) 0 ss ds r.segments both.1 in
     ap (λ (k : Class). first_holding (segments_limits k ss)) r.class
     ∙ counted_kept (nat_le 1 (length ss)) (nat_le (length ss) most) _ _ _ (ap (nat_le 1) n ∙ counts.0) (ap (λ k. nat_le k most) n ∙ counts.1) each
@@ -241,10 +241,10 @@ few_signals Papers (pos n) h = grind (arith, nat_tests, h)
 few_signals Papers (negsuc n) h = h
 few_signals Large n h = h
 
-signals_kept : (p : Parts) (files : List File) (t : Data) → Reads p files t → first_holding (signals_checks t) ≡ None → first_holding (signals_limits p.class p.signals_address p.signals_length) ≡ None
+signals_kept : (p : Parts) (files : List File) (t : Data) → ReadsPart p files t → first_holding (signals_checks t) ≡ None → first_holding (signals_limits p.class p.signals_address p.signals_length) ≡ None
 unfolding signals_checks place_checks
 signals_kept p files t r h =
-    let s = signals_of t in
+    let s = signals_table t in
     let a = integer_checks key.SignalsAddress signals_address_limit (get (codes "address") s) in
     let most = (limits_of (class_in t)).signals in
     let b = integer_checks key.SignalsLength (signals_length_limit (class_in t)) (get (codes "length") s) in
@@ -284,11 +284,11 @@ events_from i (x ∷ xs) (y ∷ ys) e h =
     let both = none_both (event_checks (i, y)) (flat_map event_checks (enumerate_from (i + 1) ys)) h in
     none_left (event_limits (i, x)) (flat_map event_limits (enumerate_from (i + 1) xs)) (event_kept i x y head both.0) ∙ events_from (i + 1) xs ys tail both.1
 
-events_kept : (p : Parts) (files : List File) (t : Data) → Reads p files t → first_holding (events_checks t) ≡ None → first_holding (events_limits p.class p.events.items) ≡ None
+events_kept : (p : Parts) (files : List File) (t : Data) → ReadsPart p files t → first_holding (events_checks t) ≡ None → first_holding (events_limits p.class p.events.items) ≡ None
 unfolding events_checks
 events_kept p files t r h =
     let es = p.events.items in
-    let ds = events_of t in
+    let ds = event_tables t in
     let most = (limits_of (class_in t)).events in
     let both = none_both (array_checks key.Event (event_counts (class_in t)) (get (codes "event") t)) (flat_map event_checks (enumerate_from 0 ds)) h in
     let counts = array_good key.Event most (get (codes "event") t) both.0 in
@@ -298,24 +298,24 @@ events_kept p files t r h =
     ∙ counted_kept (nat_le 1 (length es)) (nat_le (length es) most) _ _ _ (ap (nat_le 1) n ∙ counts.0) (ap (λ k. nat_le k most) n ∙ counts.1) each
 
 -- what was read as a segment or an event channel of the layout
-as_segment : Segment → SegmentValue
+as_segment : ReadSegment → SegmentValue
 as_segment s = record { address = number s.address; bytes = s.bytes; pages = number s.pages }
 
 as_event : Event → EventValue
 as_event e = record { name = e.name; cycle = number e.cycle; unit = number e.unit; priority = number e.priority }
 
 -- the parts have the table's layout
-pub layout_read : (p : Parts) (files : List File) (t : Data) → Reads p files t → layout_of p ≡ layout_in files t
+pub layout_read : (p : Parts) (files : List File) (t : Data) → ReadsPart p files t → layout_from p ≡ layout_in files t
 unfolding as_segment as_event
 layout_read p files t r =
     let segments : map segment_of_part p.segments.items ≡ map segment_in (segments_of files t) =
-    sym (map-map as_segment segment_read p.segments.items) ∙ ap (map as_segment) r.segments ∙ map-map as_segment segment_written (segments_of files t) in
-    let events : map event_of_part p.events.items ≡ map event_in (events_of t) =
-    sym (map-map as_event event_read p.events.items) ∙ ap (map as_event) r.events ∙ map-map as_event event_written (events_of t) in
+    sym (map-map as_segment segment_read p.segments.items) ∙ ap (map as_segment) r.segments ∙ map-map as_segment segment_in_parts (segments_of files t) in
+    let events : map event_of_part p.events.items ≡ map event_in (event_tables t) =
+    sym (map-map as_event event_read p.events.items) ∙ ap (map as_event) r.events ∙ map-map as_event event_written (event_tables t) in
     rw (r.class, r.id, r.max_cto, r.max_dto, r.checksum, r.order, r.clock, segments, r.signals_address, r.signals_length, events, r.extras) refl
 
 -- the areas decide, where all checks before theirs pass
-pub areas_decide : (p : Parts) (files : List File) (t : Data) → Reads p files t → first_holding (own_checks t ++ segments_checks files t ++ signals_checks t ++ events_checks t) ≡ None → first_limit p ≡ first_holding (apart_limits (areas (layout_in files t)))
+pub areas_decide : (p : Parts) (files : List File) (t : Data) → ReadsPart p files t → first_holding (own_checks t ++ segments_checks files t ++ signals_checks t ++ events_checks t) ≡ None → first_limit p ≡ first_holding (apart_limits (areas (layout_in files t)))
 areas_decide p files t r h =
     let all = none_both (own_checks t ++ segments_checks files t ++ signals_checks t) (events_checks t) h in
     let most = none_both (own_checks t ++ segments_checks files t) (signals_checks t) all.0 in
@@ -324,7 +324,7 @@ areas_decide p files t r h =
     let b = segments_limits p.class p.segments.items in
     let c = signals_limits p.class p.signals_address p.signals_length in
     let d = events_limits p.class p.events.items in
-    let e = apart_limits (areas (layout_of p)) in
+    let e = apart_limits (areas (layout_from p)) in
     let one = own_kept p files t r some.0 in
     let two = none_left a b one ∙ segments_kept p files t r some.1 in
     let three = none_left (a ++ b) c two ∙ signals_kept p files t r most.1 in

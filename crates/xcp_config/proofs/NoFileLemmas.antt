@@ -12,7 +12,7 @@ use Rattle.xcp_packet.specs.Rows.{first_holding}
 use Rattle.xcp_config.specs.Check.{Check}
 use Rattle.xcp_config.specs.TomlValues.{integer_of}
 use Rattle.xcp_config.specs.TableLayout.{File, Filed, filed, file_key, data_by, data_of, size_of, segment_in, segment_tables, class_in, layout_in, address_of, pages_of}
-use Rattle.xcp_config.specs.TableChecks.{checks_of_bytes, bytes_checks, segment_checks, checks_in, segments_checks, limit_check, limit_checks, own_checks, signals_checks, events_checks, checks, first_fault}
+use Rattle.xcp_config.specs.TableChecks.{checks_of_bytes, bytes_checks, segment_checks, checks_in, segments_checks, limit_check, limit_checks, own_checks, signals_checks, events_checks, checks, first_table_fault}
 
 abbrev NamesNone : Data → Type 0
 NamesNone s = file_key s ≡ None
@@ -81,6 +81,6 @@ unfolding limit_checks
 same_limits files t h = ap (λ (l : LayoutValue). map limit_check (apart_limits (areas l))) (same_layout files t h)
 
 -- the first fault
-pub same_fault : (files : List File) (t : Data) → All NamesNone (segment_tables t) → first_fault files t ≡ first_fault [] t
+pub same_fault : (files : List File) (t : Data) → All NamesNone (segment_tables t) → first_table_fault files t ≡ first_table_fault [] t
 unfolding checks
 same_fault files t h = ap (λ (cs : List Check × List Check). first_holding (own_checks t ++ cs.0 ++ signals_checks t ++ events_checks t ++ cs.1)) (λ i. (same_segments files t h i, same_limits files t h i))

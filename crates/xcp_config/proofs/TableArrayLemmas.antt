@@ -9,13 +9,13 @@ use Rattle.toml.specs.declared.value.Value.{Value}
 use Rattle.xcp_memory.specs.declared.Key.{Key}
 use Rattle.xcp_config.specs.declared.config_error.ConfigError.TheVariants.{Kind, Range, TooMany}
 use Rattle.xcp_packet.specs.Rows.{first_holding, must}
-use Rattle.xcp_config.specs.TomlValues.{list_of, members_of, is_table}
+use Rattle.xcp_config.specs.TomlValues.{array_members, members_of, is_table}
 use Rattle.xcp_memory.specs.Limits.{count_limits}
 use Rattle.xcp_config.specs.TableChecks.{array_checks}
 use Rattle.xcp_config.proofs.CheckLemmas.{drop_here}
 
 -- a list, as items and back
-pub list_of_items : (ds : List Data) → list_of (items_of ds) ≡ ds
+pub list_of_items : (ds : List Data) → array_members (items_of ds) ≡ ds
 list_of_items [] = refl
 list_of_items (d ∷ ds) = ap (λ es. d ∷ es) (list_of_items ds)
 

@@ -17,8 +17,8 @@ use Rattle.xcp_config.specs.Check.{Check}
 use Rattle.xcp_config.specs.FaultNumbers.{error_of}
 use Rattle.xcp_config.specs.TomlValues.{classes, overloads}
 use Rattle.xcp_memory.specs.Limits.{address_limit, pages_limit, text_limit}
-use Rattle.xcp_config.specs.TableLayout.{File, Filed, file_key, address_of, size_of, pages_of, layout_in, class_of, class_in, clock_key, segments_of, events_of}
-use Rattle.xcp_config.specs.TableChecks.{text_checks, name_checks, integer_checks, data_checks, array_checks, table_checks, boolean_checks, if_there, extras_checks, checks_of_clock, clock_checks, clock_key_checks, own_checks, size_checks, name_of_file_checks, content_checks, checks_of_bytes, bytes_checks, segment_checks, checks_in, segments_checks, place_checks, signals_checks, event_checks, events_checks, limit_check, limit_checks, checks, first_fault}
+use Rattle.xcp_config.specs.TableLayout.{File, Filed, file_key, address_of, size_of, pages_of, layout_in, class_of, class_in, clock_key, segments_of, event_tables}
+use Rattle.xcp_config.specs.TableChecks.{text_checks, name_checks, integer_checks, data_checks, array_checks, table_checks, boolean_checks, if_there, extras_checks, checks_of_clock, clock_checks, clock_key_checks, own_checks, size_checks, name_of_file_checks, content_checks, checks_of_bytes, bytes_checks, segment_checks, checks_in, segments_checks, place_checks, signals_checks, event_checks, events_checks, limit_check, limit_checks, checks, first_table_fault}
 
 -- a fault of a table
 abbrev of_table : ConfigError → Bool
@@ -134,7 +134,7 @@ event_told p = refl
 events_told : (t : Data) → all_of_table (events_checks t) ≡ true
 unfolding events_checks
 events_told t =
-    let es = events_of t in
+    let es = event_tables t in
     both (array_checks key.Event (event_counts (class_in t)) (get (codes "event") t)) (flat_map event_checks (enumerate_from 0 es)) (array_told key.Event (limits_of (class_in t)).events (get (codes "event") t)) (each event_checks event_told (enumerate_from 0 es))
 
 limit_told : (f : LayoutFault) → of_table (error_of f) ≡ true
@@ -162,5 +162,5 @@ told files t =
     (overlaps_told files t)
 
 -- no table is refused as no document
-pub not_text : (files : List File) (t : Data) → first_fault files t ≢ Some Text
+pub not_text : (files : List File) (t : Data) → first_table_fault files t ≢ Some Text
 not_text files t h = let bad : false ≡ true = first_told (checks files t) Text (told files t) h in cc

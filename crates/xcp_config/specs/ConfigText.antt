@@ -4,22 +4,22 @@ use Rattle.toml.specs.Data.{Data, Members, table}
 use Rattle.toml.specs.Parse.{parse_document}
 use Rattle.xcp_memory.specs.Layout.{LayoutValue}
 use Rattle.xcp_config.specs.declared.config_error.ConfigError.{ConfigError}
-use Rattle.xcp_config.specs.TomlValues.{is_file_name, text_of}
+use Rattle.xcp_config.specs.TomlValues.{is_file_name, value_text}
 use Rattle.xcp_config.specs.TableLayout.{File, file_key, layout_in, segment_tables}
-use Rattle.xcp_config.specs.TableChecks.{first_fault}
+use Rattle.xcp_config.specs.TableChecks.{first_table_fault}
 
 -- the text is a TOML document, no check of its table fails, with these files, and this is the table's layout
 pub record HasLayoutWith (files : List File) (text : List ℕ) (l : LayoutValue) : Type 0 where
   pub members : Members
   pub document : parse_document text ≡ Some members
-  pub passes : first_fault files (table members) ≡ None
+  pub passes : first_table_fault files (table members) ≡ None
   pub is : l ≡ layout_in files (table members)
 
 -- the text is a TOML document, and the first check of its table that fails, with these files, has this fault
 pub record HasFaultWith (files : List File) (text : List ℕ) (e : ConfigError) : Type 0 where
   pub members : Members
   pub document : parse_document text ≡ Some members
-  pub fails : first_fault files (table members) ≡ Some e
+  pub fails : first_table_fault files (table members) ≡ Some e
 
 -- the same of a text alone, with no files
 abbrev pub HasLayout : List ℕ → LayoutValue → Type 0
@@ -35,7 +35,7 @@ IsNoDocument text = parse_document text ≡ None
 -- the file that a segment's table names, if it names one
 abbrev pub name_by : Option Data → Option (List ℕ)
 name_by None = None
-name_by (Some name) = if is_file_name (text_of (Some name)) then Some (text_of (Some name)) else None
+name_by (Some name) = if is_file_name (value_text (Some name)) then Some (value_text (Some name)) else None
 
 -- the files that the first 16 segments of a table name, by their numbers
 abbrev pub names_in : Data → List (Option (List ℕ))

@@ -15,8 +15,8 @@ use Rattle.xcp_config.specs.declared.config_error.ConfigError.TheVariants.{Missi
 use Rattle.xcp_config.specs.FaultNumbers.{error_of}
 use Rattle.xcp_packet.specs.Rows.{first_holding, must}
 use Rattle.xcp_config.specs.Check.{Check}
-use Rattle.xcp_config.specs.TomlValues.{is_file_name, text_of, integer_of, bytes_of, members_of, is_array_of_tables, named, byte_orders, checksums, classes, overloads}
-use Rattle.xcp_config.specs.TableLayout.{File, Filed, file_key, layout_in, byte_order_of, checksum_of, class_of, class_in, clock_key, clock_setting, clock_part, segments_of, signals_of, events_of, address_of, size_of, pages_of, length_of, setting}
+use Rattle.xcp_config.specs.TomlValues.{is_file_name, value_text, integer_of, bytes_in_hex, members_of, is_array_of_tables, named, byte_orders, checksums, classes, overloads}
+use Rattle.xcp_config.specs.TableLayout.{File, Filed, file_key, layout_in, byte_order_of, checksum_in_table, class_of, class_in, clock_key, clock_setting, clock_part, segments_of, signals_table, event_tables, address_of, size_of, pages_of, length_of, setting}
 
 -- the check that a limit of a layout makes
 abbrev pub limit_check : Limit → Check
@@ -27,7 +27,7 @@ unfoldable pub text_checks : Key → (List ℕ → Limit) → Option Data → Li
 text_checks k limit v =
     must (is_some v) (Missing k)
     ∷ must (is_some (option_and_then as_str v)) (Kind k)
-    ∷ limit_check (limit (text_of v))
+    ∷ limit_check (limit (value_text v))
     ∷ []
 
 -- a text that is one of some names
@@ -35,7 +35,7 @@ unfoldable pub name_checks : {A : Type 0} → Key → List (List ℕ × A) → O
 name_checks k names v =
     must (is_some v) (Missing k)
     ∷ must (is_some (option_and_then as_str v)) (Kind k)
-    ∷ must (is_some (named names (text_of v))) (Range k)
+    ∷ must (is_some (named names (value_text v))) (Range k)
     ∷ []
 
 -- an integer that keeps a limit
@@ -63,7 +63,7 @@ unfoldable pub data_checks : Key → (ℕ → Limit) → Option Data → List Ch
 data_checks k limit v =
     must (is_some v) (Missing k)
     ∷ must (is_some (option_and_then as_str v)) (Kind k)
-    ∷ limit_check (limit (length (bytes_of v)))
+    ∷ limit_check (limit (length (bytes_in_hex v)))
     ∷ []
 
 -- an array of tables, as many as keep their limits
@@ -115,7 +115,7 @@ own_checks t =
     ++ integer_checks key.MaxCto max_cto_limit (get (codes "max_cto") t)
     ++ integer_checks key.MaxDto max_dto_limit (get (codes "max_dto") t)
     ++ name_checks key.ByteOrder byte_orders (byte_order_of t)
-    ++ name_checks key.Checksum checksums (checksum_of t)
+    ++ name_checks key.Checksum checksums (checksum_in_table t)
     ++ extras_checks t
     ++ clock_checks t
     ++ name_checks key.Class classes (class_of t)
@@ -125,7 +125,7 @@ unfoldable pub name_of_file_checks : ℕ → Data → Data → List Check
 name_of_file_checks i name s =
     must (not (is_some (get (codes "data") s))) (Kind (key.Data i))
     ∷ must (is_some (as_str name)) (Kind (key.Data i))
-    ∷ must (is_file_name (text_of (Some name))) (Range (key.Data i))
+    ∷ must (is_file_name (value_text (Some name))) (Range (key.Data i))
     ∷ []
 
 -- the file is there, and has as many bytes as keep the limit
@@ -182,7 +182,7 @@ place_checks class s =
 unfoldable pub signals_checks : Data → List Check
 signals_checks t =
     table_checks key.Signals (get (codes "signals") t)
-    ++ place_checks (class_in t) (signals_of t)
+    ++ place_checks (class_in t) (signals_table t)
 
 -- event channel i
 unfoldable pub event_checks : ℕ × Data → List Check
@@ -195,7 +195,7 @@ event_checks (i, e) =
 unfoldable pub events_checks : Data → List Check
 events_checks t =
     array_checks key.Event (event_counts (class_in t)) (get (codes "event") t)
-    ++ flat_map event_checks (enumerate_from 0 (events_of t))
+    ++ flat_map event_checks (enumerate_from 0 (event_tables t))
 
 -- no two areas share an address: each with those behind it, the segments first and then the signals
 unfoldable pub limit_checks : List File → Data → List Check
@@ -206,5 +206,5 @@ unfoldable pub checks : List File → Data → List Check
 checks files t = own_checks t ++ segments_checks files t ++ signals_checks t ++ events_checks t ++ limit_checks files t
 
 -- the fault of the first check of a table that fails
-abbrev pub first_fault : List File → Data → Option ConfigError
-first_fault files t = first_holding (checks files t)
+abbrev pub first_table_fault : List File → Data → Option ConfigError
+first_table_fault files t = first_holding (checks files t)

@@ -10,32 +10,32 @@ use Rattle.xcp_memory.specs.declared.ChecksumKind.TheVariants.{Add14}
 use Rattle.xcp_memory.specs.LayoutParts.{number, clock_of}
 use Rattle.xcp_memory.specs.declared.ClockPart.{ClockPart}
 use Rattle.xcp_memory.specs.Layout.{LayoutValue, SegmentValue, EventValue, ExtrasValue}
-use Rattle.xcp_config.specs.TomlValues.{optional, text_of, integer_of, boolean_of, bytes_of, members_of, named, byte_orders, checksums, classes, overloads}
+use Rattle.xcp_config.specs.TomlValues.{optional, value_text, integer_of, boolean_of, bytes_in_hex, members_of, named, byte_orders, checksums, classes, overloads}
 
 -- the byte order, `intel` where none is given
 abbrev pub byte_order_of : Data → Option Data
 byte_order_of t = optional (string (codes "intel")) (get (codes "byte_order") t)
 
 abbrev pub order_in : Data → Order
-order_in t = unwrap_or (named byte_orders (text_of (byte_order_of t))) Intel
+order_in t = unwrap_or (named byte_orders (value_text (byte_order_of t))) Intel
 
 -- the type of checksums, ADD_14 where none is given
-abbrev pub checksum_of : Data → Option Data
-checksum_of t = optional (string (codes "ADD_14")) (get (codes "checksum") t)
+abbrev pub checksum_in_table : Data → Option Data
+checksum_in_table t = optional (string (codes "ADD_14")) (get (codes "checksum") t)
 
 abbrev pub checksum_in : Data → ChecksumKind
-checksum_in t = unwrap_or (named checksums (text_of (checksum_of t))) Add14
+checksum_in t = unwrap_or (named checksums (value_text (checksum_in_table t))) Add14
 
 -- the class, `papers` where none is given
 abbrev pub class_of : Data → Option Data
 class_of t = optional (string (codes "papers")) (get (codes "class") t)
 
 abbrev pub class_in : Data → Class
-class_in t = unwrap_or (named classes (text_of (class_of t))) Papers
+class_in t = unwrap_or (named classes (value_text (class_of t))) Papers
 
 -- the name of the A2L file, of no bytes where none is given
 abbrev pub a2l_in : Data → List ℕ
-a2l_in t = text_of (get (codes "a2l") t)
+a2l_in t = value_text (get (codes "a2l") t)
 
 -- whether tools get the A2L file from the slave, which they don't where nothing is said
 abbrev pub uploads_in : Data → Bool
@@ -43,7 +43,7 @@ uploads_in t = boolean_of (get (codes "upload_a2l") t)
 
 -- whether an event packet tells of lost samples, which none does where nothing is said
 abbrev pub overload_in : Data → Bool
-overload_in t = unwrap_or (named overloads (text_of (get (codes "overload") t))) false
+overload_in t = unwrap_or (named overloads (value_text (get (codes "overload") t))) false
 
 -- what only some slaves have: the A2L file itself is made later
 abbrev pub extras_in : Data → ExtrasValue
@@ -95,12 +95,12 @@ abbrev pub segments_of : List File → Data → List Filed
 segments_of files t = filed files (segment_tables t)
 
 -- the tables of the array `event`
-abbrev pub events_of : Data → List Data
-events_of t = members_of (get (codes "event") t)
+abbrev pub event_tables : Data → List Data
+event_tables t = members_of (get (codes "event") t)
 
 -- the table `signals`
-abbrev pub signals_of : Data → Data
-signals_of t = unwrap_or (get (codes "signals") t) (table no_members)
+abbrev pub signals_table : Data → Data
+signals_table t = unwrap_or (get (codes "signals") t) (table no_members)
 
 -- a segment's first address
 abbrev pub address_of : Data → ℤ
@@ -112,7 +112,7 @@ file_key s = get (codes "data_file") s
 
 -- a segment's bytes, which are those of its file, where its table names one, and else those that its table writes; and how many there are
 abbrev pub data_by : Option Data → Filed → List ℕ
-data_by None (file, s) = bytes_of (get (codes "data") s)
+data_by None (file, s) = bytes_in_hex (get (codes "data") s)
 data_by (Some name) (file, s) = unwrap_or file []
 
 abbrev pub data_of : Filed → List ℕ
@@ -138,7 +138,7 @@ segment_in (file, s) = record { address = number (address_of s); bytes = data_of
 
 abbrev pub event_in : Data → EventValue
 event_in e = record {
-  name = text_of (get (codes "name") e);
+  name = value_text (get (codes "name") e);
   cycle = number (integer_of (setting (codes "cycle") e));
   unit = number (integer_of (setting (codes "unit") e));
   priority = number (integer_of (setting (codes "priority") e));
@@ -148,15 +148,15 @@ event_in e = record {
 abbrev pub layout_in : List File → Data → LayoutValue
 layout_in files t = record {
   class = class_in t;
-  id = text_of (get (codes "id") t);
+  id = value_text (get (codes "id") t);
   max_cto = number (integer_of (get (codes "max_cto") t));
   max_dto = number (integer_of (get (codes "max_dto") t));
   checksum = checksum_in t;
   order = order_in t;
   clock = clock_of (clock_in (clock_key t));
   segments = map segment_in (segments_of files t);
-  signals_address = number (address_of (signals_of t));
-  signals_length = number (length_of (signals_of t));
-  events = map event_in (events_of t);
+  signals_address = number (address_of (signals_table t));
+  signals_length = number (length_of (signals_table t));
+  events = map event_in (event_tables t);
   extras = extras_in t;
 }

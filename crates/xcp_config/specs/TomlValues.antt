@@ -20,8 +20,8 @@ optional d None = Some d
 optional d (Some v) = Some v
 
 -- the text that a value is, and none where it is no text
-abbrev pub text_of : Option Data → List ℕ
-text_of v = unwrap_or (option_and_then as_str v) []
+abbrev pub value_text : Option Data → List ℕ
+value_text v = unwrap_or (option_and_then as_str v) []
 
 -- the integer that a value is, and 0 where it is none
 abbrev pub integer_of : Option Data → ℤ
@@ -37,8 +37,8 @@ decoded (Ok bytes) = bytes
 decoded (Err e) = []
 
 -- the bytes that a text of hex digits of either case writes, and none where a digit is wrong or their number is odd
-abbrev pub bytes_of : Option Data → List ℕ
-bytes_of v = decoded (decode_of (text_of v))
+abbrev pub bytes_in_hex : Option Data → List ℕ
+bytes_in_hex v = decoded (decode_of (value_text v))
 
 -- The name of a file that lies beside a layout's file: 1 to 64 printable characters, no slash among them, and not a name of a folder.
 abbrev pub has_no_slash : List ℕ → Bool
@@ -51,13 +51,13 @@ abbrev pub is_file_name : List ℕ → Bool
 is_file_name name = is_text 64 name && has_no_slash name && not (is_folder name)
 
 -- the members of an array as a list
-abbrev pub list_of : Items → List Data
-list_of no_items = []
-list_of (item d ds) = d ∷ list_of ds
+abbrev pub array_members : Items → List Data
+array_members no_items = []
+array_members (item d ds) = d ∷ array_members ds
 
 -- the members of the array that a value is, and none where it is no array
 abbrev pub members_of : Option Data → List Data
-members_of v = list_of (unwrap_or (option_and_then as_array v) no_items)
+members_of v = array_members (unwrap_or (option_and_then as_array v) no_items)
 
 abbrev pub is_table : Data → Bool
 is_table d = is_some (as_table d)

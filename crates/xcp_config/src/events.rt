@@ -3,7 +3,7 @@ ghost use Rattle.std.specs.Prelude.{◌≡◌, ◌≤◌, ◌⊎◌, length, map
 ghost use Rattle.std.specs.List.{flat_map, enumerate_from};
 ghost use Rattle.toml.specs.View.{view};
 ghost use Rattle.xcp_packet.specs.Rows.{first_holding};
-ghost use Rattle.xcp_config.specs.TableLayout.{class_in, events_of};
+ghost use Rattle.xcp_config.specs.TableLayout.{class_in, event_tables};
 ghost use Rattle.xcp_config.specs.TableChecks.{event_checks, events_checks};
 ghost use Rattle.xcp_config.specs.private.PartsRead.{event_read, event_written};
 
@@ -55,7 +55,7 @@ pub(crate) fn read_events(
 ) -> Result<Vec<EventPart>, ConfigError>
     requires { class ≡ class_in (view table.now) }
     ensures passes { IfOk result (λ _. first_holding (events_checks (view table.now)) ≡ None) }
-    ensures read { IfOk result (λ parts. map event_read parts.items ≡ map event_written (events_of (view table.now))) }
+    ensures read { IfOk result (λ parts. map event_read parts.items ≡ map event_written (event_tables (view table.now))) }
     ensures refused { IfErr result (λ e. (e ≡ ConfigError.Memory) ⊎ (first_holding (events_checks (view table.now)) ≡ Some e)) }
 {
     let members = tables_in(table, "event", Key::Event, class.limits().events)?;

@@ -6,8 +6,8 @@ ghost use Rattle.xcp_memory.specs.declared.Key.TheVariants as key;
 ghost use Rattle.xcp_memory.specs.LayoutParts.{extras_of, number, kind_numbered};
 ghost use Rattle.xcp_memory.specs.Limits.{is_within};
 ghost use Rattle.xcp_packet.specs.Rows.{first_holding};
-ghost use Rattle.xcp_config.specs.TomlValues.{byte_orders, checksums, integer_of, named, text_of};
-ghost use Rattle.xcp_config.specs.TableLayout.{byte_order_of, checksum_in, checksum_of, class_in, clock_in, clock_key, extras_in, order_in};
+ghost use Rattle.xcp_config.specs.TomlValues.{byte_orders, checksums, integer_of, named, value_text};
+ghost use Rattle.xcp_config.specs.TableLayout.{byte_order_of, checksum_in, checksum_in_table, class_in, clock_in, clock_key, extras_in, order_in};
 ghost use Rattle.xcp_config.specs.TableChecks.{own_checks, name_checks};
 
 use crate::ConfigError;
@@ -81,9 +81,9 @@ fn read_order(table: &Value) -> Result<Order, ConfigError>
 /// The type of checksums: ADD_14 where none is given.
 #[tactic(auto, unfolding(crate::specs::TableChecks::name_checks))]
 fn read_checksum(table: &Value) -> Result<ChecksumKind, ConfigError>
-    ensures passes { IfOk result (λ _. first_holding (name_checks key.Checksum checksums (checksum_of (view table.now))) ≡ None) }
+    ensures passes { IfOk result (λ _. first_holding (name_checks key.Checksum checksums (checksum_in_table (view table.now))) ≡ None) }
     ensures value { IfOk result (λ kind. kind ≡ checksum_in (view table.now)) }
-    ensures refused { IfErr result (λ e. first_holding (name_checks key.Checksum checksums (checksum_of (view table.now))) ≡ Some e) }
+    ensures refused { IfErr result (λ e. first_holding (name_checks key.Checksum checksums (checksum_in_table (view table.now))) ≡ Some e) }
 {
     if table.get("checksum").is_none() {
         return Ok(ChecksumKind::Add14);
@@ -100,7 +100,7 @@ impl Own {
     /// clock, and the class, in this order.
     pub(crate) fn read(alloc: Global, table: &Value) -> Result<Own, ConfigError>
         ensures passes { IfOk result (λ o. first_holding (own_checks (view table.now)) ≡ None) }
-        ensures id { IfOk result (λ o. o.id.items ≡ text_of (get (codes "id") (view table.now))) }
+        ensures id { IfOk result (λ o. o.id.items ≡ value_text (get (codes "id") (view table.now))) }
         ensures max_cto { IfOk result (λ o. o.max_cto ≡ integer_of (get (codes "max_cto") (view table.now))) }
         ensures max_dto { IfOk result (λ o. o.max_dto ≡ integer_of (get (codes "max_dto") (view table.now))) }
         ensures order { IfOk result (λ o. o.order ≡ order_in (view table.now)) }

@@ -3,8 +3,8 @@ ghost use Rattle.std.specs.Prelude.{◌≡◌, ◌⊎◌, ◌++◌, Some, None, 
 ghost use Rattle.toml.specs.View.{view};
 ghost use Rattle.xcp_packet.specs.Rows.{first_holding};
 ghost use Rattle.xcp_config.specs.TableLayout.{layout_in};
-ghost use Rattle.xcp_config.specs.private.PartsRead.{Reads};
-ghost use Rattle.xcp_config.specs.TableChecks.{events_checks, first_fault, own_checks, segments_checks, signals_checks};
+ghost use Rattle.xcp_config.specs.private.PartsRead.{ReadsPart};
+ghost use Rattle.xcp_config.specs.TableChecks.{events_checks, first_table_fault, own_checks, segments_checks, signals_checks};
 ghost use Rattle.xcp_config.specs.ConfigText.{HasFault, HasFaultWith, HasLayout, HasLayoutWith, IsNoDocument};
 
 use crate::ConfigError;
@@ -51,8 +51,8 @@ pub fn read_layout_with(
 /// The parts of the layout that a table has, before it is known whether areas overlap.
 fn read_parts(alloc: Global, table: &Value, files: &[DataFile]) -> Result<Parts, ConfigError>
     ensures passes { IfOk result (λ _. first_holding (own_checks (view table.now) ++ segments_checks files.now (view table.now) ++ signals_checks (view table.now) ++ events_checks (view table.now)) ≡ None) }
-    ensures reads { IfOk result (λ p. Reads p files.now (view table.now)) }
-    ensures refused { IfErr result (λ e. (e ≡ ConfigError.Memory) ⊎ (first_fault files.now (view table.now) ≡ Some e)) }
+    ensures reads { IfOk result (λ p. ReadsPart p files.now (view table.now)) }
+    ensures refused { IfErr result (λ e. (e ≡ ConfigError.Memory) ⊎ (first_table_fault files.now (view table.now) ≡ Some e)) }
 {
     let own = Own::read(alloc, table)?;
     let segments = read_segments(alloc, table, own.class, files)?;
@@ -76,9 +76,9 @@ fn read_parts(alloc: Global, table: &Value, files: &[DataFile]) -> Result<Parts,
 
 /// The layout that a table has.
 fn read_table(alloc: Global, table: &Value, files: &[DataFile]) -> Result<Layout, ConfigError>
-    ensures passes { IfOk result (λ _. first_fault files.now (view table.now) ≡ None) }
+    ensures passes { IfOk result (λ _. first_table_fault files.now (view table.now) ≡ None) }
     ensures value { IfOk result (λ l. l ≡ layout_in files.now (view table.now)) }
-    ensures refused { IfErr result (λ e. (e ≡ ConfigError.Memory) ⊎ (first_fault files.now (view table.now) ≡ Some e)) }
+    ensures refused { IfErr result (λ e. (e ≡ ConfigError.Memory) ⊎ (first_table_fault files.now (view table.now) ≡ Some e)) }
 {
     let parts = read_parts(alloc, table, files)?;
     match Layout::new(parts) {

@@ -7,7 +7,7 @@ ghost use Rattle.xcp_memory.specs.Limits.{is_address};
 ghost use Rattle.xcp_packet.specs.Rows.{first_holding};
 ghost use Rattle.xcp_config.specs.TableLayout.{class_in, filed, segments_of, size_of};
 ghost use Rattle.xcp_config.specs.TableChecks.{checks_in, segment_checks, segments_checks, size_checks};
-ghost use Rattle.xcp_config.specs.private.PartsRead.{segment_read, segment_written};
+ghost use Rattle.xcp_config.specs.private.PartsRead.{segment_read, segment_in_parts};
 
 use crate::ConfigError;
 use crate::data_file::{DataFile, read_data};
@@ -58,7 +58,7 @@ fn read_segment(
 ) -> Result<SegmentPart, ConfigError>
     requires { before ≤ (limits_of class).bytes }
     ensures passes { IfOk result (λ _. first_holding (segment_checks class number (before + size_of (get_or files.now number None, view table.now)) (get_or files.now number None, view table.now)) ≡ None) }
-    ensures read { IfOk result (λ s. segment_read s ≡ segment_written (get_or files.now number None, view table.now)) }
+    ensures read { IfOk result (λ s. segment_read s ≡ segment_in_parts (get_or files.now number None, view table.now)) }
     ensures room { IfOk result (λ s. before + length s.bytes.items ≤ (limits_of class).bytes) }
     ensures refused { IfErr result (λ e. (e ≡ ConfigError.Memory) ⊎ (first_holding (segment_checks class number (before + size_of (get_or files.now number None, view table.now)) (get_or files.now number None, view table.now)) ≡ Some e)) }
 {
@@ -89,7 +89,7 @@ fn read_each(
 ) -> Result<Vec<SegmentPart>, ConfigError>
     requires { length members.now ≤ 16 }
     ensures passes { IfOk result (λ _. first_holding (flat_map (checks_in class (filed files.now (map view members.now))) (enumerate_from 0 (filed files.now (map view members.now)))) ≡ None) }
-    ensures read { IfOk result (λ parts. map segment_read parts.items ≡ map segment_written (filed files.now (map view members.now))) }
+    ensures read { IfOk result (λ parts. map segment_read parts.items ≡ map segment_in_parts (filed files.now (map view members.now))) }
     ensures refused { IfErr result (λ e. (e ≡ ConfigError.Memory) ⊎ (first_holding (flat_map (checks_in class (filed files.now (map view members.now))) (enumerate_from 0 (filed files.now (map view members.now)))) ≡ Some e)) }
 {
     let mut parts = Vec::new(alloc);
@@ -111,7 +111,7 @@ pub(crate) fn read_segments(
 ) -> Result<Vec<SegmentPart>, ConfigError>
     requires { class ≡ class_in (view table.now) }
     ensures passes { IfOk result (λ _. first_holding (segments_checks files.now (view table.now)) ≡ None) }
-    ensures read { IfOk result (λ parts. map segment_read parts.items ≡ map segment_written (segments_of files.now (view table.now))) }
+    ensures read { IfOk result (λ parts. map segment_read parts.items ≡ map segment_in_parts (segments_of files.now (view table.now))) }
     ensures refused { IfErr result (λ e. (e ≡ ConfigError.Memory) ⊎ (first_holding (segments_checks files.now (view table.now)) ≡ Some e)) }
 {
     let members = tables_in(table, "segment", Key::Segment, class.limits().segments)?;

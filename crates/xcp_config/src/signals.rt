@@ -3,7 +3,7 @@ ghost use Rattle.std.specs.Prelude.{◌≡◌, true, Some, None, IfOk, IfErr};
 ghost use Rattle.toml.specs.View.{view};
 ghost use Rattle.xcp_memory.specs.Limits.{is_address, is_within};
 ghost use Rattle.xcp_packet.specs.Rows.{first_holding};
-ghost use Rattle.xcp_config.specs.TableLayout.{address_of, class_in, length_of, signals_of};
+ghost use Rattle.xcp_config.specs.TableLayout.{address_of, class_in, length_of, signals_table};
 ghost use Rattle.xcp_config.specs.TableChecks.{end_checks, place_checks, signals_checks};
 
 use crate::ConfigError;
@@ -56,8 +56,8 @@ fn read_place(signals: &Value, class: Class) -> Result<Signals, ConfigError>
 pub(crate) fn read_signals(table: &Value, class: Class) -> Result<Signals, ConfigError>
     requires { class ≡ class_in (view table.now) }
     ensures passes { IfOk result (λ _. first_holding (signals_checks (view table.now)) ≡ None) }
-    ensures address { IfOk result (λ s. s.address ≡ address_of (signals_of (view table.now))) }
-    ensures length { IfOk result (λ s. s.length ≡ length_of (signals_of (view table.now))) }
+    ensures address { IfOk result (λ s. s.address ≡ address_of (signals_table (view table.now))) }
+    ensures length { IfOk result (λ s. s.length ≡ length_of (signals_table (view table.now))) }
     ensures refused { IfErr result (λ e. first_holding (signals_checks (view table.now)) ≡ Some e) }
 {
     let signals = table_in(table, "signals", Key::Signals)?;

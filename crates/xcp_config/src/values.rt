@@ -5,7 +5,7 @@ ghost use Rattle.toml.specs.Data.{get, integer};
 ghost use Rattle.toml.specs.View.{view};
 ghost use Rattle.xcp_memory.specs.Limits.{is_within, text_limit, number_limit, least_limit, count_limits};
 ghost use Rattle.xcp_packet.specs.Rows.{first_holding};
-ghost use Rattle.xcp_config.specs.TomlValues.{boolean_of, bytes_of, integer_of, is_table, members_of, optional, text_of};
+ghost use Rattle.xcp_config.specs.TomlValues.{boolean_of, bytes_in_hex, integer_of, is_table, members_of, optional, value_text};
 ghost use Rattle.xcp_config.specs.TableChecks.{array_checks, boolean_checks, data_checks, integer_checks, table_checks, text_checks};
 ghost use Rattle.xcp_config.specs.private.TextThere.{text_there};
 
@@ -18,7 +18,7 @@ use xcp_memory::{Key, is_text};
 /// A text, of whatever range.
 pub(crate) fn text_in<'a>(table: &'a Value, name: &str, key: Key) -> Result<&'a str, ConfigError>
     ensures passes { IfOk result (λ _. first_holding (text_there key (get name.now (view table.now))) ≡ None) }
-    ensures value { IfOk result (λ s. s.now ≡ text_of (get name.now (view table.now))) }
+    ensures value { IfOk result (λ s. s.now ≡ value_text (get name.now (view table.now))) }
     ensures refused { IfErr result (λ e. first_holding (text_there key (get name.now (view table.now))) ≡ Some e) }
 {
     let Some(value) = table.get(name) else {
@@ -40,7 +40,7 @@ pub(crate) fn read_text(
     most: usize,
 ) -> Result<Vec<u8>, ConfigError>
     ensures passes { IfOk result (λ _. first_holding (text_checks key (text_limit most key) (get name.now (view table.now))) ≡ None) }
-    ensures value { IfOk result (λ bytes. bytes.items ≡ text_of (get name.now (view table.now))) }
+    ensures value { IfOk result (λ bytes. bytes.items ≡ value_text (get name.now (view table.now))) }
     ensures refused { IfErr result (λ e. (e ≡ ConfigError.Memory) ⊎ (first_holding (text_checks key (text_limit most key) (get name.now (view table.now))) ≡ Some e)) }
 {
     let text = text_in(table, name, key)?;
@@ -123,7 +123,7 @@ pub(crate) fn read_bytes(
     key: Key,
 ) -> Result<Vec<u8>, ConfigError>
     ensures passes { IfOk result (λ _. first_holding (data_checks key (least_limit key) (get name.now (view table.now))) ≡ None) }
-    ensures value { IfOk result (λ bytes. bytes.items ≡ bytes_of (get name.now (view table.now))) }
+    ensures value { IfOk result (λ bytes. bytes.items ≡ bytes_in_hex (get name.now (view table.now))) }
     ensures least { IfOk result (λ bytes. 1 ≤ length bytes.items) }
     ensures refused { IfErr result (λ e. (e ≡ ConfigError.Memory) ⊎ (first_holding (data_checks key (least_limit key) (get name.now (view table.now))) ≡ Some e)) }
 {

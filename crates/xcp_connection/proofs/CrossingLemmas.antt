@@ -28,5 +28,6 @@ hearing_crosses κ N T S I P F t s i p f =
     struct_crosses (Hearing.the_type κ N T S I P F)
     (search (sendable, crosses) depth 20, (s, (watched_crosses I i, (p, (search (sendable, crosses, ends.the_send) depth 20, (f, (search (sendable, crosses) depth 20, (search (sendable, crosses) depth 20, (search sendable, (search sendable, (search (sendable, crosses) depth 20, tt)))))))))))
 
+-- a pump's part may cross to another thread, where the station may, and by whom its packets are written
 pub pumping_crosses : (κ : NamedLft) (S F : RattleType) → IsSend S → IsSend F → IsSend (Pumping.the_row κ S F)
 pumping_crosses κ S F s f = struct_crosses (Pumping.the_type κ S F) (s, (search (sendable, crosses, ends.the_send) depth 20, (f, (search (sendable, crosses) depth 20, (search sendable, (search (sendable, crosses) depth 20, tt))))))

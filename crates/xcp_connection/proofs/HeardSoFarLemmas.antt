@@ -5,10 +5,10 @@ use Rattle.std.proofs.KnownBytes.{Consumes-trans}
 use Rattle.std.specs.Prelude.{◌≢◌, false, Result, Ok, Err, is_err}
 use Rattle.xcp_slave.specs.declared.Exchange.{Exchange}
 use Rattle.xcp_slave.specs.Run.{requests_of}
-use Rattle.xcp_framing.specs.CountedCalls.{Place}
+use Rattle.xcp_framing.specs.CountedCalls.{StreamPlace}
 use Rattle.xcp_framing.specs.Frames.{frames, rest}
 use Rattle.xcp_framing.specs.Pump.{AllDrains, DrainsUpTo, Pumped, Pumps, PutsDrains}
-use Rattle.xcp_framing.specs.Serve.{OnRead, packets_of}
+use Rattle.xcp_framing.specs.Serve.{OnRead, packets_in_answers}
 use Rattle.xcp_framing.specs.ServeBy.{IsHandedBack, PutsAll, PutsSoFar, PutsSome, PutsUpTo, ServesBy, command, commands}
 use Rattle.xcp_framing.specs.declared.serving.ServeError.{ServeError}
 use Rattle.xcp_framing.specs.declared.serving.ServeError.TheVariants as errors
@@ -17,11 +17,11 @@ use Rattle.xcp_framing.proofs.ExchangeLemmas.{packets_of-append}
 use Rattle.xcp_framing.proofs.FrameCutLaws.{cuts_alike}
 use Rattle.xcp_framing.proofs.StreamLemmas.{read_none}
 use Rattle.xcp_connection.specs.Hearing.{Hears}
-use Rattle.xcp_connection.specs.Pumping.{Drains}
+use Rattle.xcp_connection.specs.Pumping.{PumpDrains}
 use Rattle.xcp_connection.specs.private.HeardSoFar.{AllDrained, AllHeard}
 
 -- nothing was heard yet
-pub heard_none : (m : ℕ) (i : Place) (old : List Exchange) (put : List (List ℕ)) → AllHeard m i i old old put put
+pub heard_none : (m : ℕ) (i : StreamPlace) (old : List Exchange) (put : List (List ℕ)) → AllHeard m i i old old put put
 heard_none m i old put = record {
   packets = [];
   read = read_none m i;
@@ -31,7 +31,7 @@ heard_none m i old put = record {
 }
 
 -- whole frames were read, and more behind them
-read_further : (m : ℕ) (i o n : Place) (ps qs : List (List ℕ)) (behind : List ℕ) → OnRead i o (λ stream. (ps ≡ frames m stream) × ([] ≡ rest m stream)) → OnRead o n (λ stream. (qs ≡ frames m stream) × (behind ≡ rest m stream))
+read_further : (m : ℕ) (i o n : StreamPlace) (ps qs : List (List ℕ)) (behind : List ℕ) → OnRead i o (λ stream. (ps ≡ frames m stream) × ([] ≡ rest m stream)) → OnRead o n (λ stream. (qs ≡ frames m stream) × (behind ≡ rest m stream))
     → OnRead i n (λ stream. (ps ++ qs ≡ frames m stream) × (behind ≡ rest m stream))
 read_further m i o n ps qs behind h k =
     let cut = cuts_alike m h.stream k.stream in
@@ -45,8 +45,8 @@ read_further m i o n ps qs behind h k =
     }
 
 -- exchanges that were put, and more behind them
-put_further : (xs ys : List Exchange) (back : List (List ℕ)) (a b c : List (List ℕ)) → b ≡ a ++ packets_of xs → c ≡ b ++ back → c ≡ a ++ (packets_of xs ++ back)
-put_further xs ys back a b c h k = k ∙ ap (λ (z : List (List ℕ)). z ++ back) h ∙ append_assoc a (packets_of xs) back
+put_further : (xs ys : List Exchange) (back : List (List ℕ)) (a b c : List (List ℕ)) → b ≡ a ++ packets_in_answers xs → c ≡ b ++ back → c ≡ a ++ (packets_in_answers xs ++ back)
+put_further xs ys back a b c h k = k ∙ ap (λ (z : List (List ℕ)). z ++ back) h ∙ append_assoc a (packets_in_answers xs) back
 
 asked_further : (ps qs : List (List ℕ)) (xs ys : List Exchange) → requests_of xs ≡ commands ps → requests_of ys ≡ commands qs → requests_of (xs ++ ys) ≡ commands (ps ++ qs)
 asked_further ps qs xs ys h k =
@@ -55,7 +55,7 @@ asked_further ps qs xs ys h k =
 all_further : (ps qs : List (List ℕ)) (xs ys : List Exchange) (a b c : List (List ℕ)) → PutsAll ps xs a b → PutsAll qs ys b c → PutsAll (ps ++ qs) (xs ++ ys) a c
 all_further ps qs xs ys a b c h k = record {
   asked = asked_further ps qs xs ys h.asked k.asked;
-  put = put_further xs ys (packets_of ys) a b c h.put k.put ∙ ap (λ (z : List (List ℕ)). a ++ z) (sym (packets_of-append xs ys));
+  put = put_further xs ys (packets_in_answers ys) a b c h.put k.put ∙ ap (λ (z : List (List ℕ)). a ++ z) (sym (packets_of-append xs ys));
 }
 
 some_further : (ps qs : List (List ℕ)) (xs ys : List Exchange) (a b c : List (List ℕ)) → PutsAll ps xs a b → PutsSome qs ys b c → PutsSome (ps ++ qs) (xs ++ ys) a c
@@ -66,11 +66,11 @@ some_further ps qs xs ys a b c h k = record {
   answered = all_further ps k.done xs ys a b c h k.answered;
 }
 
-back_further : (xs ys : List Exchange) (a b c : List (List ℕ)) → b ≡ a ++ packets_of xs → IsHandedBack (packets_of ys) b c → IsHandedBack (packets_of (xs ++ ys)) a c
+back_further : (xs ys : List Exchange) (a b c : List (List ℕ)) → b ≡ a ++ packets_in_answers xs → IsHandedBack (packets_in_answers ys) b c → IsHandedBack (packets_in_answers (xs ++ ys)) a c
 back_further xs ys a b c h k = record {
-  front = packets_of xs ++ k.front;
+  front = packets_in_answers xs ++ k.front;
   back = k.back;
-  joined = packets_of-append xs ys ∙ ap (λ (z : List (List ℕ)). packets_of xs ++ z) k.joined ∙ sym (append_assoc (packets_of xs) k.front k.back);
+  joined = packets_of-append xs ys ∙ ap (λ (z : List (List ℕ)). packets_in_answers xs ++ z) k.joined ∙ sym (append_assoc (packets_in_answers xs) k.front k.back);
   some = k.some;
   put = put_further xs ys k.front a b c h k.put;
 }
@@ -100,7 +100,7 @@ grown_further : (old mid new xs ys : List Exchange) → mid ≡ old ++ xs → ne
 grown_further old mid new xs ys h k = k ∙ ap (λ (z : List Exchange). z ++ ys) h ∙ append_assoc old xs ys
 
 -- a passage behind those that were heard to their ends
-pub heard_further : (m : ℕ) (r : Result Served ServeError) (i o n : Place) (old mid new : List Exchange) (a b c : List (List ℕ)) → AllHeard m i o old mid a b → ServesBy m r o n mid new b c → Hears m r i n old new a c
+pub heard_further : (m : ℕ) (r : Result Served ServeError) (i o n : StreamPlace) (old mid new : List Exchange) (a b c : List (List ℕ)) → AllHeard m i o old mid a b → ServesBy m r o n mid new b c → Hears m r i n old new a c
 heard_further m r i o n old mid new a b c h k = record {
   packets = h.packets ++ k.packets;
   behind = k.behind;
@@ -112,7 +112,7 @@ heard_further m r i o n old mid new a b c h k = record {
 }
 
 -- and one more that was heard to its end
-pub heard_more : (m : ℕ) (r : Result Served ServeError) (i o n : Place) (old mid new : List Exchange) (a b c : List (List ℕ)) → is_err r ≡ false → AllHeard m i o old mid a b → ServesBy m r o n mid new b c → AllHeard m i n old new a c
+pub heard_more : (m : ℕ) (r : Result Served ServeError) (i o n : StreamPlace) (old mid new : List Exchange) (a b c : List (List ℕ)) → is_err r ≡ false → AllHeard m i o old mid a b → ServesBy m r o n mid new b c → AllHeard m i n old new a c
 heard_more m (Err e) i o n old mid new a b c fine h k = absurd (true≢false fine)
 heard_more m (Ok served) i o n old mid new a b c fine h k =
     let all = heard_further m (Ok served) i o n old mid new a b c h k in
@@ -133,7 +133,7 @@ drains_append (x ∷ xs) ys h k = (h.0, drains_append xs ys h.1 k)
 puts_further : (xs ys : List Exchange) (a b c : List (List ℕ)) → PutsDrains xs a b → PutsDrains ys b c → PutsDrains (xs ++ ys) a c
 puts_further xs ys a b c h k = record {
   drains = drains_append xs ys h.drains k.drains;
-  put = put_further xs ys (packets_of ys) a b c h.put k.put ∙ ap (λ (z : List (List ℕ)). a ++ z) (sym (packets_of-append xs ys));
+  put = put_further xs ys (packets_in_answers ys) a b c h.put k.put ∙ ap (λ (z : List (List ℕ)). a ++ z) (sym (packets_of-append xs ys));
 }
 
 drains_further : (xs ys : List Exchange) (a b c : List (List ℕ)) → PutsDrains xs a b → DrainsUpTo ys b c → DrainsUpTo (xs ++ ys) a c
@@ -151,7 +151,7 @@ pumped_further (Err errors.JournalFull) xs ys a b c h k = puts_further xs ys a b
 pumped_further (Err errors.NoRoom) xs ys a b c h k = drains_further xs ys a b c h k
 
 -- a call of `pump` behind others that had no fault
-pub drained_further : (r : Result ℕ ServeError) (old mid new : List Exchange) (a b c : List (List ℕ)) → AllDrained old mid a b → Pumps r mid new b c → Drains r old new a c
+pub drained_further : (r : Result ℕ ServeError) (old mid new : List Exchange) (a b c : List (List ℕ)) → AllDrained old mid a b → Pumps r mid new b c → PumpDrains r old new a c
 drained_further r old mid new a b c h k = record {
   exchanges = h.exchanges ++ k.exchanges;
   grown = grown_further old mid new h.exchanges k.exchanges h.grown k.grown;

@@ -4,7 +4,7 @@ use mathlib.Core.List.{IsPrefix}
 use Rattle.xcp_framing.specs.CountedCalls.{Watched}
 use Rattle.xcp_outlet.specs.OutletEnds.{Outlet, has_mark, packets}
 use Rattle.xcp_outlet.specs.ChannelRule.{of}
-use Rattle.xcp_outlet.specs.Sending.{Sends}
+use Rattle.xcp_outlet.specs.Sending.{SendsMessages}
 use Rattle.xcp_outlet.specs.declared.message.Message.{Message}
 use Rattle.xcp_connection.specs.declared.sending.Wrote.{Wrote}
 
@@ -18,7 +18,7 @@ module _ {O : Type 0} (contents : O → Option (List ℕ)) where
   -- What was taken of this outlet, and what was written of it by a writer that contained this before, and had failed so often.
   pub record WroteAs (outlet : Outlet) (before : Option (List ℕ)) (failures : ℕ) (d : Wrote O) : Type 0 where
     pub same : d.sent.took.outlet ≡ outlet
-    pub sends : Sends d.sent.count d.sent.took.taken before (contents d.writer.value.inner) failures d.writer.value.failures
+    pub sends : SendsMessages d.sent.count d.sent.took.taken before (contents d.writer.value.inner) failures d.writer.value.failures
 
   -- the same of this writer
   abbrev pub WroteFor : Outlet → Watched O → Wrote O → Type 0

@@ -1,7 +1,7 @@
 //! One reader and writer, served until the connection ends.
 ghost use Rattle.std.specs.Prelude.{◌≡◌, ℕ, [], IfErr, IfOk, false, true};
-ghost use Rattle.xcp_framing.specs.CountedCalls.{place_of};
-ghost use Rattle.xcp_connection.specs.Connections.{Serves};
+ghost use Rattle.xcp_framing.specs.CountedCalls.{stream_place};
+ghost use Rattle.xcp_connection.specs.Connections.{ServesConnection};
 
 use crate::closing::{Closed, close};
 use crate::connection::{Limits, connect};
@@ -53,8 +53,8 @@ pub fn attend<
     limits: Limits,
     write_size: usize,
 ) -> Result<Attended<S, I, O>, (S, S)>
-    ensures serves { IfOk result (λ d. Serves limits.max_cto d.outcome
-        (place_of I.remaining stream.0) (place_of I.remaining d.reader.value)
+    ensures serves { IfOk result (λ d. ServesConnection limits.max_cto d.outcome
+        (stream_place I.remaining stream.0) (stream_place I.remaining d.reader.value)
         (O.contents stream.1.inner) (O.contents d.writer.value.inner)
         (S.exchanges tool) (S.exchanges d.tool) (S.exchanges pump) (S.exchanges d.pump)) }
     ensures stays { IfOk result (λ d. S.same tool d.tool × S.same pump d.pump) }
@@ -97,8 +97,8 @@ fn attend_named<
     requires failures { (place : ℕ) → L.failures place ≡ stream.1.failures }
     requires replies { ends.0 ≡ record { outlet = ends.2.outlet; side = false; put = [] } }
     requires samples { ends.1 ≡ record { outlet = ends.2.outlet; side = true; put = [] } }
-    ensures serves { Serves limits.max_cto result.outcome
-        (place_of I.remaining stream.0) (place_of I.remaining result.reader.value)
+    ensures serves { ServesConnection limits.max_cto result.outcome
+        (stream_place I.remaining stream.0) (stream_place I.remaining result.reader.value)
         (O.contents stream.1.inner) (O.contents result.writer.value.inner)
         (S.exchanges tool) (S.exchanges result.tool) (S.exchanges pump) (S.exchanges result.pump) }
     ensures stays { S.same tool result.tool × S.same pump result.pump }

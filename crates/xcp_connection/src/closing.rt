@@ -9,7 +9,7 @@ use crate::sending::Wrote;
 use std::io::Write;
 use std::snapshot::Snapshot;
 use xcp_framing::{ServeError, Served, Watched};
-use xcp_outlet::{Put, SendError, Sent, Took};
+use xcp_outlet::{Put, SendError, SentPackets, Took};
 
 /// What there was of a connection at its end. Contracts alone see it: reader and writer were dropped
 /// there, which closes the connection, and this takes no memory.
@@ -58,7 +58,7 @@ pub fn close<S: Drop, I: Drop, O: Write + Drop>(
         put: data,
     } = pumped;
     let Wrote { sent, writer } = wrote;
-    let Sent { count, mut took } = sent;
+    let SentPackets { count, mut took } = sent;
     let left = Gone {
         reader,
         writer,

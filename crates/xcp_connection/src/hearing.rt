@@ -1,6 +1,6 @@
 //! The part of a connection that hears the tool.
 ghost use Rattle.std.specs.Prelude.{◌≡◌, ◌≢◌, ◌⊎◌, ◌<◌, Err};
-ghost use Rattle.xcp_framing.specs.CountedCalls.{place_of};
+ghost use Rattle.xcp_framing.specs.CountedCalls.{stream_place};
 ghost use Rattle.xcp_framing.specs.Serve.{EndsReader};
 ghost use Rattle.xcp_connection.specs.Hearing.{Hears, Passage};
 
@@ -129,7 +129,7 @@ fn hear<S: Station, I: Read, P: Passages<I>, F: Forward + Drop, R: Wait>(
     turns: u32,
 ) -> Result<Served, ServeError>
     ensures hears { Hears max_cto result
-        (place_of I.remaining reader.old) (place_of I.remaining reader.new)
+        (stream_place I.remaining reader.old) (stream_place I.remaining reader.new)
         (S.exchanges station.old) (S.exchanges station.new) replies.old.end.put replies.new.end.put }
     ensures ends { EndsReader result (I.remaining reader.new.inner) }
     ensures failed { result ≡ Err ServeError.Read → reader.old.failures < reader.new.failures }

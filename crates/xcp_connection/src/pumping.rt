@@ -2,13 +2,13 @@
 ghost use Rattle.std.specs.Prelude.{◌≡◌, ◌⊎◌, IfErr, true};
 ghost use Rattle.xcp_framing.specs.Pump.{Pumps};
 ghost use Rattle.xcp_framing.specs.ServeParts.{IsInterruption};
-ghost use Rattle.xcp_connection.specs.Pumping.{Drains};
+ghost use Rattle.xcp_connection.specs.Pumping.{PumpDrains};
 
 use std::sync::Wait;
 use std::sync::atomic::{AtomicBool, Ordering};
 use together::Work;
 use xcp_framing::{ServeError, Station, pump};
-use xcp_outlet::{Data, DataEnd, Forward, Put, WaitingEnd};
+use xcp_outlet::{DataEnd, DataSide, Forward, Put, WaitingEnd};
 
 /// The part of a connection that drains the packets which wait, and waits where none do, until it sees
 /// `stop`, or its turns are spent and it doesn't go on.
@@ -75,12 +75,12 @@ impl<'a, S: Station + Send + Drop, F: Forward + Send + Drop> Work<Pumped<S>> for
 fn drain<S: Station, F: Forward + Drop, R: Wait>(
     rt: &R,
     station: &mut S,
-    samples: &mut WaitingEnd<'_, Data, F, R>,
+    samples: &mut WaitingEnd<'_, DataSide, F, R>,
     stop: &AtomicBool,
     turns: u32,
     goes_on: bool,
 ) -> Result<u64, ServeError>
-    ensures drains { Drains result (S.exchanges station.old) (S.exchanges station.new)
+    ensures drains { PumpDrains result (S.exchanges station.old) (S.exchanges station.new)
         samples.old.end.put samples.new.end.put }
     ensures single { (goes_on ≡ true) ⊎ Pumps result (S.exchanges station.old) (S.exchanges station.new)
         samples.old.end.put samples.new.end.put }

@@ -5,13 +5,13 @@ use std::io::Write;
 use std::snapshot::Snapshot;
 use std::sync::Wait;
 use xcp_framing::Watched;
-use xcp_outlet::{Dispatch, LineName, Sent};
+use xcp_outlet::{Dispatch, LineName, SentPackets};
 
 /// What comes of sending. The writer was dropped at its end, and contracts alone see how it was
 /// then.
 #[derive(Drop)]
 pub struct Wrote<O: Write + Drop> {
-    pub sent: Sent,
+    pub sent: SentPackets,
     pub writer: Snapshot<Watched<O>>,
 }
 

@@ -199,6 +199,7 @@ pub record IsChanged (last image : List ℕ) (from to : ℕ) : Type 0 where
   pub inside : to ≤ length image
   pub outside : SameOutside from to last image
 
+-- a step between lawful states that leaves the image the same outside of a range in it changes it within this range
 pub is-changed : (before after : SlaveValue) (q : Request) (a : Answer) (last : List ℕ) (from to : ℕ) → IsLawful before.transfer → IsLawful after.transfer → Answers before q a after → last ≡ image_of before → from ≤ to → to ≤ image_size (layout_of after) → SameOutside from to (image_of before) (image_of after) → IsChanged last (image_of after) from to
 is-changed before after q a last from to old new step is order inside outside =
     let layout : layout_of after ≡ layout_of before = answers-layout before q a after step in

@@ -20,6 +20,7 @@ same_pages (x ∷ xs) (y ∷ ys) l h =
 same_page : (p q : PagesValue) → SameMemory p q → (i : ℕ) → ecu_page (segment_at q i) ≡ ecu_page (segment_at p i)
 same_page p q h i = ap (λ z. get_or z (segment_at q i).ecu []) (h.pages i) ∙ ap (λ k. get_or (segment_at p i).pages k []) (h.ecu i)
 
+-- the same memory has the same image of the controller's pages
 pub same_image : (p q : PagesValue) → SameMemory p q → ecu_image q ≡ ecu_image p
 same_image p q h =
     let same : ecu_pages q ≡ ecu_pages p = same_pages q.segments p.segments h.count (same_page p q h) in

@@ -99,7 +99,7 @@ impl Controller {
             lent,
             ..
         } = self;
-        slave.audit();
+        slave.known();
         let told = slave.answer(asked, lent);
         let _ = publish_changed(writer, last, slave, asked, &told);
         told
@@ -146,7 +146,7 @@ impl Controller {
     }
 
     /// Tells a caller's proof that the image published last is that of the slave. It does nothing.
-    pub fn audit(&self)
+    pub fn known(&self)
         ensures { IsPublished self.now.slave self.now.writer }
     {
         let _ = &self.slave;

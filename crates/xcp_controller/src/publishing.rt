@@ -38,7 +38,7 @@ pub fn publish_changed(
         ((image_of slave.now ≡ last.old) × (writer.new.publications ≡ writer.old.publications)) }
 {
     let (from, to) = changed_within(asked, told, slave);
-    slave.audit();
+    slave.known();
     if from == to {
         return false;
     }

@@ -20,7 +20,7 @@ pub(crate) fn places_up_to(layout: &Layout, end: u32) -> (usize, usize)
     ensures few { result.1 ≤ result.0 + MOST_WRITTEN }
     ensures within { (a n : ℕ) → 0 < n → n ≤ 255 → a + n ≡ end → StandsWithin layout.now a n result.0 result.1 }
 {
-    layout.audit();
+    layout.known();
     let Some(last) = end.checked_sub(1) else {
         return (0, 0);
     };
@@ -52,7 +52,7 @@ fn place_of(layout: &Layout, segment: usize) -> usize
     ensures room { result + length (get_or layout.now.segments segment no_segment).bytes ≤ image_size layout.now }
     ensures bound { result ≤ 1048576 }
 {
-    layout.audit();
+    layout.known();
     let mut at = 0;
     for before in 0..segment {
         at += layout.segment_size(before);

@@ -24,9 +24,11 @@ counts_again (n ∷ ns) xs h =
 pub odt_counts_again : (oc ec : List ℕ) (es : List E) → IsFit oc ec es → map length (tree oc ec es) ≡ oc
 odt_counts_again oc ec es f = counts_again oc (parts ec es) (f.cut ∙ sym (length-parts ec es))
 
+-- the counts of entries are the lengths of the tree's ODTs, where the pools fit each other
 pub entry_counts_again : (oc ec : List ℕ) (es : List E) → IsFit oc ec es → map length (joined (tree oc ec es)) ≡ ec
 entry_counts_again oc ec es f = ap (map length) (all_joined (tree oc ec es) oc ec es refl f) ∙ counts_again ec es f.filled
 
+-- the pool of entries is all entries of the tree, where the pools fit each other
 pub entries_again : (oc ec : List ℕ) (es : List E) → IsFit oc ec es → joined (joined (tree oc ec es)) ≡ es
 entries_again oc ec es f = ap joined (all_joined (tree oc ec es) oc ec es refl f) ∙ joined-parts ec es f.filled
 
@@ -36,6 +38,7 @@ pub record SamePools (oc ec : List ℕ) (es : List E) (oc2 ec2 : List ℕ) (es2 
   pub entry_counts : ec ≡ ec2
   pub entries : es ≡ es2
 
+-- pools that fit each other are equal where their trees are
 pub same_pools : (oc ec : List ℕ) (es : List E) (oc2 ec2 : List ℕ) (es2 : List E) → IsFit oc ec es → IsFit oc2 ec2 es2 → tree oc ec es ≡ tree oc2 ec2 es2 → SamePools oc ec es oc2 ec2 es2
 same_pools oc ec es oc2 ec2 es2 f g e = record {
   odt_counts = sym (odt_counts_again oc ec es f) ∙ ap (map length) e ∙ odt_counts_again oc2 ec2 es2 g;
@@ -64,5 +67,6 @@ odts_again (m ∷ ms) (o ∷ os) h = ap (λ (zs : List (List (List E))). o ∷ z
 pub same_modes : (ms ns : List Mode) (os ps : List (List (List E))) → length ms ≡ length os → length ns ≡ length ps → lists_of ms os ≡ lists_of ns ps → ms ≡ ns
 same_modes ms ns os ps h k e = sym (modes_again ms os h) ∙ ap (map mode_in) e ∙ modes_again ns ps k
 
+-- equal lists have equal ODTs, where they were made of as many modes as lists of ODTs
 pub same_odts : (ms ns : List Mode) (os ps : List (List (List E))) → length ms ≡ length os → length ns ≡ length ps → lists_of ms os ≡ lists_of ns ps → os ≡ ps
 same_odts ms ns os ps h k e = sym (odts_again ms os h) ∙ ap (map (λ (l : DaqList). l.odts)) e ∙ odts_again ns ps k

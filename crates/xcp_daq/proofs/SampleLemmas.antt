@@ -65,6 +65,7 @@ same_stamped_packet : (p q : ℕ) (s t bytes : List ℕ) → length (stamped_pac
 same_stamped_packet p q s t [] = refl
 same_stamped_packet p q s t (b ∷ bytes) = refl
 
+-- ODTs give as many packets with a time stamp in the first, whatever the first PID and the stamp
 pub same_stamped : (pages : PagesValue) (p q : ℕ) (s t : List ℕ) (odts : List (List (Option Element))) → length (stamped_packets pages p s odts) ≡ length (stamped_packets pages q t odts)
 same_stamped pages p q s t [] = refl
 same_stamped pages p q s t (o ∷ odts) = omega (arith, length-append (stamped_packet p s (odt_bytes pages o)) (packets_from pages (p + 1) odts), length-append (stamped_packet q t (odt_bytes pages o)) (packets_from pages (q + 1) odts), same_stamped_packet p q s t (odt_bytes pages o), same_packets pages (p + 1) (q + 1) odts)

@@ -12,7 +12,7 @@ use Rattle.xcp_daq.specs.declared.daq_element.DaqElement.{DaqElement}
 use Rattle.xcp_daq.specs.declared.element.Element.{Element}
 use Rattle.xcp_daq.specs.declared.pointer.Pointer.{Pointer}
 use Rattle.xcp_daq.specs.DaqLists.{DaqValue, DaqList, no_list, list_at, odt_at}
-use Rattle.xcp_daq.specs.Configuring.{has_no_pointer, pointed_list_runs, element_rows, moved_on, written_at, write_daq_refusal, write_daq_after, element_in, elements_in, unless, write_daqs}
+use Rattle.xcp_daq.specs.Configuring.{has_no_pointer, pointed_list_runs, element_rows, moved_on, entry_written, write_daq_refusal, write_daq_after, element_in, elements_in, unless, write_daqs}
 
 -- a list runs as before where the ODTs of one list change
 running_set : (ls : List DaqList) (i k : ℕ) (os : List (List (Option Element))) → (get_or (slice_set ls i (record (get_or ls i no_list) { odts = os })) k no_list).running ≡ (get_or ls k no_list).running
@@ -57,7 +57,7 @@ moved_alike : (v w : DaqValue) (p : Pointer) → Alike v w → moved_on v p ≡ 
 moved_alike v w p h = ap (λ (n : ℕ). if nat_lt (p.entry + 1) n then Some (record p { entry = p.entry + 1 }) else None) (h.entries p.list p.odt)
 
 -- a written entry changes the pointer alone
-written_kept : (p : Option Pointer) (e : Element) (v : DaqValue) → Alike (written_at p e v) (record v { pointer = (written_at p e v).pointer })
+written_kept : (p : Option Pointer) (e : Element) (v : DaqValue) → Alike (entry_written p e v) (record v { pointer = (entry_written p e v).pointer })
 written_kept None e v = record { pointer = refl; running = λ i. refl; entries = λ i j. refl }
 written_kept (Some p) e v = record {
   pointer = refl;
@@ -65,7 +65,7 @@ written_kept (Some p) e v = record {
   entries = λ i j. entries_set v.lists p.list i p.odt j p.entry (Some e);
 }
 
-written_alike : (p : Option Pointer) (e : Element) (v w : DaqValue) → Alike v w → Alike (written_at p e v) (written_at p e w)
+written_alike : (p : Option Pointer) (e : Element) (v w : DaqValue) → Alike v w → Alike (entry_written p e v) (entry_written p e w)
 written_alike None e v w h = h
 written_alike (Some p) e v w h = record {
   pointer = moved_alike v w p h;
@@ -76,7 +76,7 @@ written_alike (Some p) e v w h = record {
 after_alike : (size address : ℕ) (v w : DaqValue) → Alike v w → Alike (write_daq_after size address v) (write_daq_after size address w)
 after_alike size address v w h =
     let e : Element = record { size = size; address = address } in
-    subst (λ (p : Option Pointer). Alike (written_at v.pointer e v) (written_at p e w)) h.pointer (written_alike v.pointer e v w h)
+    subst (λ (p : Option Pointer). Alike (entry_written v.pointer e v) (entry_written p e w)) h.pointer (written_alike v.pointer e v w h)
 
 same_behind : (o : Option Code) (r s : Result DaqValue Code) → result_err r ≡ result_err s → result_err (unless o r) ≡ result_err (unless o s)
 same_behind None r s h = h

@@ -73,14 +73,14 @@ write_daq_refusal layout offset size extension address v =
     ∷ element_rows layout offset size extension address)
 
 -- the entry at the pointer is written, and the pointer moves on
-abbrev pub written_at : Option Pointer → Element → DaqValue → DaqValue
-written_at None e v = v
-written_at (Some p) e v =
+abbrev pub entry_written : Option Pointer → Element → DaqValue → DaqValue
+entry_written None e v = v
+entry_written (Some p) e v =
     record (with_odt v p.list p.odt (slice_set (odt_at v p.list p.odt) p.entry (Some e))) { pointer = moved_on v p }
 
 -- what WRITE_DAQ does
 abbrev pub write_daq_after : ℕ → ℕ → DaqValue → DaqValue
-write_daq_after size address v = written_at v.pointer (record { size = size; address = address }) v
+write_daq_after size address v = entry_written v.pointer (record { size = size; address = address }) v
 
 -- a DAQ element in eight bytes: BIT_OFFSET, size, address, address extension, and a dummy byte
 abbrev pub element_in : Order → List ℕ → DaqElement

@@ -105,7 +105,7 @@ impl Daq {
     }
 
     /// Tells a caller's proof what is true of all lists.
-    pub fn audit(&self)
+    pub fn known(&self)
         ensures { IsDaq self.now }
     {
         let _ = &self.modes;

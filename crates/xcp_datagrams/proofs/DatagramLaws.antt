@@ -9,7 +9,7 @@ use Rattle.xcp_framing.specs.Frames.{frames, rest}
 use Rattle.xcp_framing.proofs.FrameCutLaws.{cuts_alike, unfinished_nil}
 use Rattle.xcp_framing.proofs.RoundTripLaws.{wire_comes_back}
 use Rattle.xcp_framing.proofs.WholeFrameLaws.{framed_from}
-use Rattle.xcp_datagrams.specs.Datagrams.{IsWhole, datagram_frames, fits, front, DatagramIsAStream, FrontsAreAStream, PacketsInDatagrams}
+use Rattle.xcp_datagrams.specs.Datagrams.{IsWholeFrames, datagram_frames, fits, front, DatagramIsAStream, FrontsAreAStream, PacketsInDatagrams}
 use Rattle.xcp_datagrams.proofs.FrontLemmas.{front_and_rest, front_frames}
 
 -- a datagram means what its bytes mean as a stream
@@ -40,18 +40,18 @@ fronts_are_a_stream m (d ∷ ds) =
     )
 
 -- a datagram of whole frames is its front
-pub whole_is_front : (m : ℕ) (d : List ℕ) → IsWhole m d → front m d ≡ d
+pub whole_is_front : (m : ℕ) (d : List ℕ) → IsWholeFrames m d → front m d ≡ d
 whole_is_front m d w =
     let part = take (length d - length (rest m d)) d in
     let behind : part ++ rest m d ≡ part = ap (λ (t : List ℕ). part ++ t) w.none_left ∙ append-nil part in
     rw (w.fitting) (sym behind ∙ front_and_rest m d)
 
 -- datagrams of whole frames are their fronts
-pub whole_are_fronts : (m : ℕ) (ds : List (List ℕ)) → All (IsWhole m) ds → flat_map (front m) ds ≡ flat_map (λ (d : List ℕ). d) ds
+pub whole_are_fronts : (m : ℕ) (ds : List (List ℕ)) → All (IsWholeFrames m) ds → flat_map (front m) ds ≡ flat_map (λ (d : List ℕ). d) ds
 whole_are_fronts m [] a = refl
 whole_are_fronts m (d ∷ ds) a =
     flat_map-cons (front m) d ds
-    ∙ rw (whole_is_front m d (All-head (IsWhole m) d ds a), whole_are_fronts m ds (All-tail (IsWhole m) d ds a)) (sym (flat_map-cons (λ (e : List ℕ). e) d ds))
+    ∙ rw (whole_is_front m d (All-head (IsWholeFrames m) d ds a), whole_are_fronts m ds (All-tail (IsWholeFrames m) d ds a)) (sym (flat_map-cons (λ (e : List ℕ). e) d ds))
 
 -- each packet stands in one datagram, in order
 pub packets_in_datagrams : PacketsInDatagrams

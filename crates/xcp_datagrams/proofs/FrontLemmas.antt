@@ -8,7 +8,7 @@ use Rattle.std.specs.Prelude.{MatchBool}
 use Rattle.byteorder.specs.Endian.{little_number}
 use Rattle.xcp_framing.specs.Wire.{len_of, is_frame, packet_in, IsUnfinished, Framed}
 use Rattle.xcp_framing.specs.Frames.{frames, rest}
-use Rattle.xcp_datagrams.specs.Datagrams.{IsWhole, fits}
+use Rattle.xcp_datagrams.specs.Datagrams.{IsWholeFrames, fits}
 use Rattle.xcp_framing.proofs.FrameCutLaws.{cuts_alike, front_unfinished, is_frame-is, len_of-append, unfinished_nil}
 use Rattle.xcp_framing.proofs.PartialFrameLemmas.{head_frame, held_frame, held_unfinished}
 use Rattle.xcp_framing.proofs.WholeFrameLaws.{framed_from, whole_frames}
@@ -117,6 +117,7 @@ packet_there k t more there =
     let no : (length (take k t) == 4) ≡ false = grind (arith, nat_tests, long, more) in
     rw no refl
 
+-- a frame of four bytes has no packet
 pub packet_none : (k : ℕ) (t : List ℕ) → k ≤ 4 → 4 ≤ k → k ≤ length t → packet_in (take k t) ≡ []
 packet_none k t most least there =
     let long : length (take k t) ≡ k = omega (arith, length-take k t, there) in
@@ -135,7 +136,7 @@ ctr_slice at k s four there =
 
 -- no longer front of these bytes is a datagram of whole frames
 pub none_fits : (m at : ℕ) (s : List ℕ) → rest m (take at s) ≡ [] → ((k : ℕ) → at < k → k ≤ length s → k ≤ 1472 → IsUnfinished m (take (k - at) (drop at s)))
-    → (k : ℕ) → at < k → k ≤ length s → IsWhole m (take k s) → ⊥
+    → (k : ℕ) → at < k → k ≤ length s → IsWholeFrames m (take k s) → ⊥
 none_fits m at s none behind k more within w =
     let fit : length (take k s) ≤ 1472 = grind (arith, nat_tests, w.fitting) in
     none_longer m at k s none more within (behind k more within (omega (arith, fit, within, length-take k s))) w.none_left
@@ -146,9 +147,9 @@ none_of [] h = refl
 none_of (x ∷ xs) h = absurd (omega (arith, h))
 
 -- a datagram is whole frames exactly where its front is all of it
-pub whole_where : (m n size : ℕ) (d : List ℕ) → fits d ≡ true → size ≡ length d → n ≤ length d → drop n d ≡ rest m d → MatchBool (nat_eq n size) (IsWhole m d) (¬ (IsWhole m d))
+pub whole_where : (m n size : ℕ) (d : List ℕ) → fits d ≡ true → size ≡ length d → n ≤ length d → drop n d ≡ rest m d → MatchBool (nat_eq n size) (IsWholeFrames m d) (¬ (IsWholeFrames m d))
 whole_where m n size d f e within left =
-    elim (nat_eq n size) as (λ b. nat_eq n size ≡ b → MatchBool b (IsWhole m d) (¬ (IsWhole m d))) [
+    elim (nat_eq n size) as (λ b. nat_eq n size ≡ b → MatchBool b (IsWholeFrames m d) (¬ (IsWholeFrames m d))) [
       | true ↦ λ q.
           let all : n ≡ length d = grind (arith, nat_tests, q, e) in
           record { fitting = f; none_left = sym left ∙ none_of (drop n d) (omega (arith, all, length-drop n d)) }

@@ -7,12 +7,12 @@ use Rattle.std.proofs.lemmas.Grind.{flat_map-append}
 use Rattle.std.specs.List.{flat_map}
 use Rattle.byteorder.specs.Endian.{little_number}
 use Rattle.xcp_framing.specs.Wire.{len_of, is_frame, packet_in, IsUnfinished}
-use Rattle.xcp_datagrams.specs.Numbers.{Heard, Hears, HearsAll, HearsFrames, ctr_of}
+use Rattle.xcp_datagrams.specs.Numbers.{Heard, CountsFrame, HearsAll, HearsFrames, ctr_of}
 use Rattle.xcp_datagrams.proofs.FrontLemmas.{ctr_slice, head_is_frame}
 
 -- one more behind them
-pub hears_more : (a : Heard) (ctrs : List ℕ) (b : Heard) (ctr : ℕ) (c : Heard) → HearsAll a ctrs b → Hears b ctr c → HearsAll a (ctrs ++ ctr ∷ []) c
-hears_more a [] b ctr c h s = (c, subst (λ (x : Heard). Hears x ctr c) h s, refl)
+pub hears_more : (a : Heard) (ctrs : List ℕ) (b : Heard) (ctr : ℕ) (c : Heard) → HearsAll a ctrs b → CountsFrame b ctr c → HearsAll a (ctrs ++ ctr ∷ []) c
+hears_more a [] b ctr c h s = (c, subst (λ (x : Heard). CountsFrame x ctr c) h s, refl)
 hears_more a (x ∷ xs) b ctr c h s = (h.0, h.1, hears_more h.0 xs b ctr c h.2 s)
 
 -- the whole frames among the first `at` bytes came
@@ -28,7 +28,7 @@ heard_none m s a = record { whole = []; each = λ i d b. absurd (omega (arith, b
 
 -- and one more
 pub heard_one : (m at k : ℕ) (s : List ℕ) (a b c : Heard) → HeardSoFar m s at a b → k ≡ 4 + len_of (drop at s) → len_of (drop at s) ≤ m → k ≤ length (drop at s)
-    → Hears b (little_number 2 (drop (at + 2) s)) c → HeardSoFar m s (at + k) a c
+    → CountsFrame b (little_number 2 (drop (at + 2) s)) c → HeardSoFar m s (at + k) a c
 heard_one m at k s a b c h e fits there step =
     let f = take k (drop at s) in
     let one = head_is_frame m k (drop at s) e fits there in
@@ -39,7 +39,7 @@ heard_one m at k s a b c h e fits there step =
       each = All-append (λ (g : List ℕ). IsTrue (is_frame m g)) h.whole (f ∷ []) h.each (All-cons (λ (g : List ℕ). IsTrue (is_frame m g)) f [] one (λ i d b. absurd (omega (arith, b))));
       joined = h.joined ∙ ap (λ (z : List ℕ). flat_map (λ (g : List ℕ). g) h.whole ++ z) tail ∙ sym (append_assoc (flat_map (λ (g : List ℕ). g) h.whole) f (drop (at + k) s)) ∙ ap (λ (z : List ℕ). z ++ drop (at + k) s) (sym flat);
       heard = subst (λ (ctrs : List ℕ). HearsAll a ctrs c) (sym (map-append ctr_of h.whole (f ∷ [])))
-          (hears_more a (map ctr_of h.whole) b (ctr_of f) c h.heard (subst (λ (ctr : ℕ). Hears b ctr c) (ctr_slice at k s (omega (arith, e)) there) step));
+          (hears_more a (map ctr_of h.whole) b (ctr_of f) c h.heard (subst (λ (ctr : ℕ). CountsFrame b ctr c) (ctr_slice at k s (omega (arith, e)) there) step));
     }
 
 -- no whole frame is left

@@ -22,7 +22,7 @@ abbrev pub front : ℕ → List ℕ → List ℕ
 front m datagram = if fits datagram then take (length datagram - length (rest m datagram)) datagram else []
 
 -- a datagram is whole frames
-pub record IsWhole (m : ℕ) (datagram : List ℕ) : Type 0 where
+pub record IsWholeFrames (m : ℕ) (datagram : List ℕ) : Type 0 where
   pub fitting : fits datagram ≡ true
   pub none_left : rest m datagram ≡ []
 
@@ -40,30 +40,30 @@ FrontsAreAStream = (m : ℕ) (datagrams : List (List ℕ))
 -- A law: where what a sender puts on the wire goes out in datagrams of whole frames, each packet stands in exactly one of them, in order.
 abbrev pub PacketsInDatagrams : Type 0
 PacketsInDatagrams = (m : ℕ) (packets datagrams : List (List ℕ)) → m < 65536 → All (λ packet. (0 < length packet) × (length packet ≤ m)) packets
-    → All (IsWhole m) datagrams → flat_map (λ datagram. datagram) datagrams ≡ wire packets → flat_map (datagram_frames m) datagrams ≡ packets
+    → All (IsWholeFrames m) datagrams → flat_map (λ datagram. datagram) datagrams ≡ wire packets → flat_map (datagram_frames m) datagrams ≡ packets
 
 -- The first n bytes are a datagram of whole frames, and as many of these as fit: no longer front is one.
 pub record Fills (m : ℕ) (bytes : List ℕ) (n : ℕ) : Type 0 where
   pub within : n ≤ length bytes
-  pub whole : IsWhole m (take n bytes)
-  pub most : (k : ℕ) → n < k → k ≤ length bytes → IsWhole m (take k bytes) → ⊥
+  pub whole : IsWholeFrames m (take n bytes)
+  pub most : (k : ℕ) → n < k → k ≤ length bytes → IsWholeFrames m (take k bytes) → ⊥
 
 -- a packet is a CONNECT: its code, and its mode
-abbrev pub is_connect : List ℕ → Bool
-is_connect packet = nat_le 2 (length packet) && (get_or packet 0 0 == 0xFF)
+abbrev pub is_connect_packet : List ℕ → Bool
+is_connect_packet packet = nat_le 2 (length packet) && (get_or packet 0 0 == 0xFF)
 
 -- a packet is a DISCONNECT
 abbrev pub is_disconnect : List ℕ → Bool
 is_disconnect packet = get_or packet 0 0 == 0xFE
 
 -- packets begin with a CONNECT
-abbrev pub connects : List (List ℕ) → Bool
-connects [] = false
-connects (packet ∷ packets) = is_connect packet
+abbrev pub begins_with_connect : List (List ℕ) → Bool
+begins_with_connect [] = false
+begins_with_connect (packet ∷ packets) = is_connect_packet packet
 
 -- whether the tool has gone with a packet, as it was before
 abbrev pub gone_by : Bool → List ℕ → Bool
-gone_by before packet = if is_disconnect packet then true else if is_connect packet then false else before
+gone_by before packet = if is_disconnect packet then true else if is_connect_packet packet then false else before
 
 -- whether a tool that was there, or had gone, has gone with these packets
 abbrev pub leaves_from : Bool → List (List ℕ) → Bool

@@ -23,29 +23,29 @@ abbrev pub ahead : ℕ → ℕ → ℕ
 ahead expected ctr = ((ctr + 65536) - expected) % 65536
 
 -- a number that counts no further than 64 bits
-abbrev pub counted : ℕ → ℕ
-counted n = min n (2 ^ 64 - 1)
+abbrev pub at_most_64_bits : ℕ → ℕ
+at_most_64_bits n = min n (2 ^ 64 - 1)
 
 -- a frame is late: it came before, or it was taken for lost
 pub record IsLate (old new : Gaps) : Type 0 where
-  pub which : ((new.doubled ≡ counted (old.doubled + 1)) × (new.overtaken ≡ old.overtaken) × (new.lost ≡ old.lost))
-      ⊎ ((new.doubled ≡ old.doubled) × (new.overtaken ≡ counted (old.overtaken + 1)) × (new.lost ≤ old.lost) × (old.lost ≤ new.lost + 1))
+  pub which : ((new.doubled ≡ at_most_64_bits (old.doubled + 1)) × (new.overtaken ≡ old.overtaken) × (new.lost ≡ old.lost))
+      ⊎ ((new.doubled ≡ old.doubled) × (new.overtaken ≡ at_most_64_bits (old.overtaken + 1)) × (new.lost ≤ old.lost) × (old.lost ≤ new.lost + 1))
 
 -- a frame with this CTR came, where this one, if any, was expected
 abbrev pub HearsFrom : Option ℕ → Heard → ℕ → Heard → Type 0
 HearsFrom None old ctr new = (new.next ≡ Some (behind ctr)) × (new.gaps ≡ old.gaps)
 HearsFrom (Some e) old ctr new =
-    (ahead e ctr < 32768 → (new.next ≡ Some (behind ctr)) × (new.gaps ≡ record old.gaps { lost = counted (old.gaps.lost + ahead e ctr) }))
+    (ahead e ctr < 32768 → (new.next ≡ Some (behind ctr)) × (new.gaps ≡ record old.gaps { lost = at_most_64_bits (old.gaps.lost + ahead e ctr) }))
     × (32768 ≤ ahead e ctr → (new.next ≡ old.next) × IsLate old.gaps new.gaps)
 
 -- A frame with this CTR came. What it is ahead of the expected one is lost, as far as is known; a late one changes nothing of what is expected.
-abbrev pub Hears : Heard → ℕ → Heard → Type 0
-Hears old ctr new = HearsFrom old.next old ctr new
+abbrev pub CountsFrame : Heard → ℕ → Heard → Type 0
+CountsFrame old ctr new = HearsFrom old.next old ctr new
 
 -- frames with these CTRs came, one behind another
 abbrev pub HearsAll : Heard → List ℕ → Heard → Type 0
 HearsAll old [] new = new ≡ old
-HearsAll old (ctr ∷ ctrs) new = (mid : Heard) × Hears old ctr mid × HearsAll mid ctrs new
+HearsAll old (ctr ∷ ctrs) new = (mid : Heard) × CountsFrame old ctr mid × HearsAll mid ctrs new
 
 -- The whole frames of these bytes came, in order: up to the end, or to the first that isn't whole or has a LEN above m (MAX_CTO).
 pub record HearsFrames (m : ℕ) (bytes : List ℕ) (old new : Heard) : Type 0 where

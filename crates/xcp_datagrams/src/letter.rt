@@ -1,6 +1,6 @@
 //! A datagram that came, and how much of it was read.
 ghost use Rattle.std.specs.Prelude.{◌≡◌, ◌≤◌, [], IfOk, MatchBool, drop, length, min, take};
-ghost use Rattle.xcp_datagrams.specs.Datagrams.{IsWhole, front};
+ghost use Rattle.xcp_datagrams.specs.Datagrams.{IsWholeFrames, front};
 
 use crate::cutting::{LONGEST, whole_front};
 use std::alloc::{AllocError, Global};
@@ -72,7 +72,7 @@ impl Letter {
 
     /// Its whole frames are to be read from now on, and whether it is nothing else.
     pub fn open(&mut self, max_cto: u8) -> bool
-        ensures whole { MatchBool result (IsWhole max_cto self.old.bytes) (¬ (IsWhole max_cto self.old.bytes)) }
+        ensures whole { MatchBool result (IsWholeFrames max_cto self.old.bytes) (¬ (IsWholeFrames max_cto self.old.bytes)) }
         ensures unread { self.new.unread ≡ front max_cto self.old.bytes }
         ensures same { self.new.bytes ≡ self.old.bytes }
     {

@@ -1,6 +1,6 @@
 //! CTR of a tool's frames, and its gaps.
 ghost use Rattle.std.specs.Prelude.{◌≡◌, None};
-ghost use Rattle.xcp_datagrams.specs.Numbers.{Hears, HearsFrames, IsLate};
+ghost use Rattle.xcp_datagrams.specs.Numbers.{CountsFrame, HearsFrames, IsLate};
 
 use crate::head::{CTR_PLACE, head};
 use byteorder::{ByteOrder, LittleEndian};
@@ -77,7 +77,7 @@ impl Numbering {
 
     /// A frame with this CTR came.
     pub fn note(&mut self, ctr: u16)
-        ensures { Hears self.old ctr self.new }
+        ensures { CountsFrame self.old ctr self.new }
     {
         let Some(expected) = self.next else {
             self.missing = 0;

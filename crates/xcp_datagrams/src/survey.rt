@@ -1,7 +1,7 @@
 //! What the frames of a datagram say of who has the slave.
 ghost use Rattle.std.specs.Prelude.{◌≡◌, ◌≤◌};
 ghost use Rattle.xcp_framing.specs.Frames.{frames};
-ghost use Rattle.xcp_datagrams.specs.Datagrams.{connects, gone_by, is_connect, leaves};
+ghost use Rattle.xcp_datagrams.specs.Datagrams.{begins_with_connect, gone_by, is_connect_packet, leaves};
 
 use crate::head::{HEADER_SIZE, head};
 
@@ -13,7 +13,7 @@ const DISCONNECT: u8 = 0xFE;
 
 /// Whether the first packet of these frames is a CONNECT, with its mode.
 pub fn connects(max_cto: u8, bytes: &[u8]) -> bool
-    ensures { result ≡ connects (frames max_cto bytes.now) }
+    ensures { result ≡ begins_with_connect (frames max_cto bytes.now) }
 {
     let mut at = 0;
     while let Some(size) = head(max_cto, &bytes[at..]) {
@@ -42,7 +42,7 @@ pub fn leaves(max_cto: u8, bytes: &[u8]) -> bool
 
 /// Whether a packet is a CONNECT.
 fn is_connect(packet: &[u8]) -> bool
-    ensures { result ≡ is_connect packet.now }
+    ensures { result ≡ is_connect_packet packet.now }
 {
     packet.len() >= 2 && packet[0] == CONNECT
 }

@@ -2,11 +2,11 @@
 use Rattle.std.proofs.Common.{◌≡◌, List, [], ◌∷◌, Option, Some, refl, ap, true}
 use Rattle.toml.specs.Data.{Data, as_array}
 use Rattle.toml.specs.View.{items_of}
-use Rattle.xcp_config.specs.TomlValues.{list_of, members_of}
+use Rattle.xcp_config.specs.TomlValues.{array_members, members_of}
 use Rattle.xcp_describe.specs.EntryValues.{is_array_or_none}
 
 -- a list, as items and back
-list_of_items : (ds : List Data) → list_of (items_of ds) ≡ ds
+list_of_items : (ds : List Data) → array_members (items_of ds) ≡ ds
 list_of_items [] = refl
 list_of_items (d ∷ ds) = ap (λ es. d ∷ es) (list_of_items ds)
 

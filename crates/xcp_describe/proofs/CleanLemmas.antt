@@ -8,9 +8,9 @@ use Rattle.toml.specs.Data.{table}
 use Rattle.xcp_config.specs.TableLayout.{File}
 use Rattle.xcp_config.specs.declared.config_error.ConfigError.TheVariants.{Text}
 use Rattle.xcp_describe.specs.declared.findings.Findings.{Findings}
-use Rattle.xcp_describe.specs.Findings.{IsChecked, IsEntry, IsFound, IsUnreadable}
+use Rattle.xcp_describe.specs.Findings.{IsChecked, IsEntryFault, IsFound, IsUnreadable}
 use Rattle.xcp_describe.specs.UnreadKeys.{unread_keys}
-use Rattle.xcp_describe.specs.FindingsText.{IsPlain, IsSyntaxLine, clean_text, no_utf8_text, fault_line, findings_text, line_if, lines_of, or_clean, refused_line, unread_line}
+use Rattle.xcp_describe.specs.FindingsText.{IsPlainText, IsSyntaxLine, clean_text, no_utf8_text, fault_line, findings_text, line_if, finding_lines, or_clean, refused_line, unread_line}
 use Rattle.xcp_describe.specs.Places.{PlacedKey}
 
 -- lines that begin with another byte than the clean text are another text
@@ -21,12 +21,13 @@ begins (c ∷ cs) n h =
     let same : c ∷ cs ≡ clean_text = sym (cond-false _ clean_text (c ∷ cs) some) ∙ h in
     n (ap (λ xs. get_or xs 0 110) same)
 
-pub clean_only : (fault : Option ConfigError) (keys : List PlacedKey) (refused : Option DescribeError) → IfSome refused IsEntry → findings_text fault keys refused ≡ clean_text → (fault ≡ None) × (length keys ≡ 0) × (refused ≡ None)
+-- where the text says that nothing was found, there is no fault, no unread key and no refused entry
+pub clean_only : (fault : Option ConfigError) (keys : List PlacedKey) (refused : Option DescribeError) → IfSome refused IsEntryFault → findings_text fault keys refused ≡ clean_text → (fault ≡ None) × (length keys ≡ 0) × (refused ≡ None)
 clean_only None [] None q h = (refl, refl, refl)
-clean_only (Some e) keys refused q h = absurd (begins (lines_of (Some e) keys refused) (λ (b : 99 ≡ 110). absurd (omega (arith, b))) h)
-clean_only None (k ∷ keys) refused q h = absurd (begins (lines_of None (k ∷ keys) refused) (λ (b : 117 ≡ 110). absurd (omega (arith, b))) h)
-clean_only None [] (Some (Parameter n w)) q h = absurd (begins (lines_of None [] (Some (Parameter n w))) (λ (b : 112 ≡ 110). absurd (omega (arith, b))) h)
-clean_only None [] (Some (Measurement n w)) q h = absurd (begins (lines_of None [] (Some (Measurement n w))) (λ (b : 109 ≡ 110). absurd (omega (arith, b))) h)
+clean_only (Some e) keys refused q h = absurd (begins (finding_lines (Some e) keys refused) (λ (b : 99 ≡ 110). absurd (omega (arith, b))) h)
+clean_only None (k ∷ keys) refused q h = absurd (begins (finding_lines None (k ∷ keys) refused) (λ (b : 117 ≡ 110). absurd (omega (arith, b))) h)
+clean_only None [] (Some (Parameter n w)) q h = absurd (begins (finding_lines None [] (Some (Parameter n w))) (λ (b : 112 ≡ 110). absurd (omega (arith, b))) h)
+clean_only None [] (Some (Measurement n w)) q h = absurd (begins (finding_lines None [] (Some (Measurement n w))) (λ (b : 109 ≡ 110). absurd (omega (arith, b))) h)
 clean_only None [] (Some Host) q h = absurd q
 clean_only None [] (Some (Program f)) q h = absurd q
 
@@ -37,6 +38,7 @@ no_utf8_is_no_clean_text h = let bad : 99 ≡ 110 = ap (λ xs. get_or xs 0 0) h 
 some_fault : Some Text ≡ None → ⊥
 some_fault h = absurd (cc)
 
+-- the line of a file that is no document is not the text that says that nothing was found
 pub syntax_line_is_no_clean_text : (text : List ℕ) → IsSyntaxLine text → text ≡ clean_text → ⊥
 syntax_line_is_no_clean_text text p h =
     let bad : 99 ≡ 110 = ap (λ xs. get_or xs 0 0) (sym p.line ∙ h) in absurd (omega (arith, bad))
@@ -45,7 +47,7 @@ clean_told : (fault : Option ConfigError) (keys : List PlacedKey) (refused : Opt
 clean_told fault [] refused e n f = rw (e, f) refl
 clean_told fault (k ∷ keys) refused e n f = absurd (omega (arith, n))
 
-entry_in : (P : DescribeError → Type 0) (r : Option DescribeError) → IfSome r (λ e. IsEntry e × P e) → IfSome r IsEntry
+entry_in : (P : DescribeError → Type 0) (r : Option DescribeError) → IfSome r (λ e. IsEntryFault e × P e) → IfSome r IsEntryFault
 entry_in P None h = tt
 entry_in P (Some e) h = h.0
 

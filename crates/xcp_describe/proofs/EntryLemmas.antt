@@ -12,13 +12,13 @@ use Rattle.xcp_describe.specs.declared.refusal.Why.TheVariants.{Table}
 use Rattle.xcp_describe.specs.declared.refusal.DescribeError.{DescribeError}
 use Rattle.xcp_describe.specs.declared.refusal.DescribeError.TheVariants.{Host, Program, Parameter, Measurement}
 use Rattle.xcp_describe.specs.EntryFaults.{axes_checks, parameter_checks, parameters_checks, parameters_in, placed_at}
-use Rattle.xcp_describe.specs.Findings.{IsEntry}
+use Rattle.xcp_describe.specs.Findings.{IsEntryFault}
 use Rattle.xcp_describe.specs.declared.entry.Entry.{Entry}
 use Rattle.xcp_describe.specs.declared.meaning.Meaning.{Meaning}
 use Rattle.xcp_describe.specs.EntryValues.{is_array_or_none, mask_in}
 use Rattle.xcp_describe.specs.Axes.{Form, form_of}
-use Rattle.xcp_describe.specs.private.EntriesRead.{IsRead, form_read}
-use Rattle.xcp_describe.specs.private.Refusals.{IsEntryOrMemory, Refuses}
+use Rattle.xcp_describe.specs.private.EntriesRead.{IsEntryRead, form_read}
+use Rattle.xcp_describe.specs.private.Refusals.{IsEntryOrMemory, RefusesEntry}
 
 -- the first fault, with its place
 placed : (place : Why → DescribeError) (fs : List (Bool × Why)) → first_holding (map (placed_at place) fs) ≡ option_map place (first_holding fs)
@@ -30,13 +30,14 @@ placed place (f ∷ fs) =
     ]
 
 -- a refusal is one of an entry, or want of memory
-refusal_of : (e : DescribeError) → IsEntry e → IsEntryOrMemory e
+refusal_of : (e : DescribeError) → IsEntryFault e → IsEntryOrMemory e
 refusal_of Host h = h
 refusal_of (Program fault) h = absurd h
 refusal_of (Parameter number why) h = tt
 refusal_of (Measurement number why) h = tt
 
-pub entry_or_memory : (first : Option DescribeError) (e : DescribeError) → Refuses first e → IsEntryOrMemory e
+-- what refuses by the first fault, or for want of memory, is a refusal of an entry or want of memory
+pub entry_or_memory : (first : Option DescribeError) (e : DescribeError) → RefusesEntry first e → IsEntryOrMemory e
 entry_or_memory first e h = elim h [ inl m ↦ rw m refl | inr k ↦ refusal_of e k.0 ]
 
 -- an element of a list, as one of the list that it is seen as
@@ -44,6 +45,7 @@ pub record Seen {A B : Type 0} (f : A → B) (xs : List A) (i : ℕ) (x : A) : T
   pub below : i < length (map f xs)
   pub is : f x ≡ get_or (map f xs) i (f x)
 
+-- element i of a list is seen as element i of what the list is seen as
 pub seen : {A B : Type 0} (f : A → B) (xs : List A) (i : ℕ) (x : A) → i < length xs → x ≡ get_or xs i x → Seen f xs i x
 seen f xs i x h e = record { below = rw length-map h; is = ap f e ∙ sym (get_or-map f xs i x (f x) h) }
 
@@ -52,7 +54,7 @@ map_push f [] x = refl
 map_push f (y ∷ ys) x = ap (λ zs. f y ∷ zs) (map_push f ys x)
 
 -- a parameter that is read has its axes as its table has them
-pub form_is : (d : Data) (e : Entry) (m : Meaning) → IsRead true d e → m.bits ≡ mask_in d → form_read (record e { meaning = m }) ≡ form_of d
+pub form_is : (d : Data) (e : Entry) (m : Meaning) → IsEntryRead true d e → m.bits ≡ mask_in d → form_read (record e { meaning = m }) ≡ form_of d
 form_is d e m r bits = rw (r.name, r.count, r.columns, r.rows, bits, r.x_axis, r.y_axis) refl
 
 -- one more name
@@ -89,9 +91,11 @@ there : (l : LayoutValue) (t : Data) → is_array_or_none (get (codes "parameter
 unfolding parameters_checks
 there l t a = ap (λ b. first_holding ((not b, Parameter 0 Table) ∷ own l (parameters_in t) ++ axes_checks (map form_of (parameters_in t)))) a
 
+-- where the parameters are an array or none, the first fault that one has by itself is their first fault
 pub own_fault_comes_first : (l : LayoutValue) (t : Data) (ds : List Data) (e : DescribeError) → is_array_or_none (get (codes "parameter") t) ≡ true → ds ≡ parameters_in t → first_holding (own l ds) ≡ Some e → first_holding (parameters_checks l t) ≡ Some e
 own_fault_comes_first l t ds e a is h = there l t a ∙ holding_left (own l (parameters_in t)) (axes_checks (map form_of (parameters_in t))) e (ap (λ x. first_holding (own l x)) (sym is) ∙ h)
 
+-- where the parameters are an array or none, and none has a fault by itself, their first fault is that of axes
 pub axes_come_last : (l : LayoutValue) (t : Data) (ds : List Data) (ps : List Form) → is_array_or_none (get (codes "parameter") t) ≡ true → ds ≡ parameters_in t → ps ≡ map form_of ds → first_holding (own l ds) ≡ None → first_holding (parameters_checks l t) ≡ first_holding (axes_checks ps)
 axes_come_last l t ds ps a is forms h =
     there l t a

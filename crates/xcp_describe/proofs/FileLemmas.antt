@@ -7,7 +7,7 @@ use Rattle.sha2.specs.Sha256.{sha256}
 use Rattle.sha2.proofs.Facts256.{length-sha256}
 use Rattle.hex.specs.Hex.{lower_digits}
 use Rattle.hex.proofs.HexLemmas.{length-encode_with}
-use Rattle.xcp_describe.specs.Files.{IsFile, TellsEpk, epk_line, epk_of, marked}
+use Rattle.xcp_describe.specs.Files.{HasA2lForm, TellsEpk, epk_line, epk_of, marked}
 
 pub record IsJoined (front epk rest text : List ℕ) : Type 0 where
   pub first : List ℕ
@@ -30,7 +30,8 @@ joined_is_framed : (front epk rest text : List ℕ) → IsJoined front epk rest 
 unfolding blocks_of
 joined_is_framed front epk rest text j = rw (j.ended, j.gone_on, j.told, j.headed, j.fronted, j.begun) (simp append_assoc)
 
-pub joined_is_file : (front epk rest text file : List ℕ) → IsJoined front epk rest text → file ≡ marked text → IsUtf8 file → IsFile file
+-- a file of joined parts, with a byte order mark or without, has the form of an A2L file, where it is UTF-8
+pub joined_is_file : (front epk rest text file : List ℕ) → IsJoined front epk rest text → file ≡ marked text → IsUtf8 file → HasA2lForm file
 joined_is_file front epk rest text file j m u = record { blocks = blocks_of front epk rest; framed = m ∙ ap marked (joined_is_framed front epk rest text j); utf8 = u }
 
 -- however they are grouped
@@ -49,8 +50,10 @@ tells_behind : (digits text : List ℕ) (b : Bool) → TellsEpk digits text → 
 tells_behind digits text true t = t
 tells_behind digits text false t = record { before = 0xEF ∷ 0xBB ∷ 0xBF ∷ t.before; behind = t.behind; told = ap (λ x. 0xEF ∷ 0xBB ∷ 0xBF ∷ x) t.told }
 
+-- a file of joined parts, with a byte order mark or without, tells the EPK whose line stands first in MOD_PAR
 pub file_tells : (front epk rest text file digits : List ℕ) → IsJoined front epk rest text → file ≡ marked text → epk ≡ epk_line digits → TellsEpk digits file
 file_tells front epk rest text file digits j m e = rw m (tells_behind digits text (list_all is_ascii text) (joined_tells front epk rest text digits j e))
 
+-- an EPK has 64 digits, whatever the layout file
 pub epk_has_64_digits : (config : List ℕ) → length (epk_of config) ≡ 64
 epk_has_64_digits config = length-encode_with lower_digits (sha256 config) ∙ ap (λ n. 2 * n) (length-sha256 config)

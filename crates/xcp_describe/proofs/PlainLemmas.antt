@@ -7,20 +7,23 @@ use Rattle.std.specs.Fmt.{digit_glyph}
 use Rattle.std.proofs.lemmas.Str.{encodes-append, encode_ascii}
 use Rattle.std.proofs.lemmas.List.Folds.{list_all-append}
 use Rattle.std.proofs.lemmas.Bool.{and_from, cond_both, ltb-true, ltb-false, lt-leb}
-use Rattle.xcp_describe.specs.FindingsText.{IsPlain, is_plain}
+use Rattle.xcp_describe.specs.FindingsText.{IsPlainText, is_plain}
 use Rattle.xcp_describe.specs.Places.{code_escape, escape}
 use Rattle.xcp_describe.specs.private.PlainText.{AppendsPlain}
 
-pub plain_both : (a b : List ℕ) → IsPlain a → IsPlain b → IsPlain (a ++ b)
+-- text without control characters with such text behind it has none
+pub plain_both : (a b : List ℕ) → IsPlainText a → IsPlainText b → IsPlainText (a ++ b)
 plain_both a b p q = record {
   characters = p.characters ++ q.characters;
   plain = list_all-append (λ c. not (is_control c)) p.characters q.characters ∙ and_from _ _ p.plain q.plain;
   encoded = rw (p.encoded, q.encoded) (sym (encodes-append p.characters q.characters));
 }
 
+-- nothing was appended, which has no control character
 pub appends_none : (a : List ℕ) → AppendsPlain a a
 appends_none a = record { more = []; plain = record { characters = []; plain = refl; encoded = refl }; is = sym (append-nil a) }
 
+-- what was appended in two steps, without control characters in either, has none as a whole
 pub appends_both : (a b c : List ℕ) → AppendsPlain a b → AppendsPlain b c → AppendsPlain a c
 appends_both a b c p q = record {
   more = p.more ++ q.more;
@@ -29,7 +32,7 @@ appends_both a b c p q = record {
 }
 
 -- a character that is no control character
-pub plain_character : (c : ℕ) → is_control c ≡ false → IsPlain (encode_utf8 c)
+pub plain_character : (c : ℕ) → is_control c ≡ false → IsPlainText (encode_utf8 c)
 plain_character c h = record { characters = c ∷ []; plain = rw h refl; encoded = sym (append-nil _) }
 
 -- a digit
@@ -51,7 +54,7 @@ encoded_list : (x y : ℕ) → InText x → InText y → x ∷ y ∷ [] ≡ enco
 unfolding InText
 encoded_list x y p q = rw (encode_ascii x (omega arith), encode_ascii y (omega arith)) refl
 
-two_digits : (c : ℕ) → c < 256 → IsPlain (digit_glyph true (c / 16) ∷ digit_glyph true (c % 16) ∷ [])
+two_digits : (c : ℕ) → c < 256 → IsPlainText (digit_glyph true (c / 16) ∷ digit_glyph true (c % 16) ∷ [])
 two_digits c h =
     let high : c / 16 < 16 = omega arith in
     let low : c % 16 < 16 = omega arith in
@@ -61,15 +64,17 @@ two_digits c h =
       encoded = encoded_list _ _ (digit_is _ high) (digit_is _ low);
     }
 
-pub plain_code : (c : ℕ) → c < 256 → IsPlain (code_escape c)
+-- the escape by code of a number below 256 has no control character
+pub plain_code : (c : ℕ) → c < 256 → IsPlainText (code_escape c)
 unfolding encode_utf8
 plain_code c h = plain_both (codes "\\u00") _ (record { characters = codes "\\u00"; plain = refl; encoded = refl }) (two_digits c h)
 
-short : (s : List ℕ) → IsPlain s → (b : Bool) (t : List ℕ) → IsPlain t → IsPlain (cond b s t)
+short : (s : List ℕ) → IsPlainText s → (b : Bool) (t : List ℕ) → IsPlainText t → IsPlainText (cond b s t)
 short s p true t q = p
 short s p false t q = q
 
-pub plain_escape : (c : ℕ) → c < 256 → IsPlain (escape c)
+-- the escape of a number below 256 has no control character
+pub plain_escape : (c : ℕ) → c < 256 → IsPlainText (escape c)
 unfolding encode_utf8
 plain_escape c h =
     short (codes "\\b") (record { characters = codes "\\b"; plain = refl; encoded = refl }) (nat_eq c 8) _

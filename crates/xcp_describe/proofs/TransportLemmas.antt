@@ -19,6 +19,7 @@ known_now t a b c more e f = record { before = a; behind = more; is = f ∙ ap (
 known_then : (t : Transport) (a b more : List ℕ) → KnowsTransport t a → b ≡ a ++ more → KnowsTransport t b
 known_then t a b more k e = record { before = k.before; behind = k.behind ++ more; is = e ∙ part_then a k.before (known_line t) k.behind more k.is }
 
+-- a text with the block IF_DATA has it with more behind it, too
 pub interface_then : (t : Transport) (host : List ℕ) (port : ℕ) (a b more : List ℕ) → HasInterface t host port a → b ≡ a ++ more → HasInterface t host port b
 interface_then t host port a b more k e = record {
   version = k.version;
@@ -56,6 +57,7 @@ tells_behind t host port text false k = record {
   told = ap (λ x. 0xEF ∷ 0xBB ∷ 0xBF ∷ x) k.told;
 }
 
+-- a file of joined parts, with a byte order mark or without, tells the transport layer whose grammar line and block stand in them
 pub file_tells_transport : (t : Transport) (host : List ℕ) (port : ℕ) (front epk rest text file : List ℕ) → IsJoined front epk rest text → file ≡ marked text → KnowsTransport t front → HasInterface t host port rest → TellsTransport t host port file
 file_tells_transport t host port front epk rest text file j m k i = rw m (tells_behind t host port text (list_all is_ascii text) (joined_tells t host port front epk rest text j k i))
 
@@ -83,10 +85,12 @@ pub known_pushed : {A E : Type 0} (t : Transport) (r : Result A E) (a b c more :
 known_pushed t (Ok _) a b c more e f = known_now t a b c more e f
 known_pushed t (Err _) a b c more e f = tt
 
+-- the line of the grammar stands in a text also with more pushed behind it, where that succeeded
 pub known_then_pushed : {A E : Type 0} (t : Transport) (r : Result A E) (a b more : List ℕ) → KnowsTransport t a → b ≡ (if is_ok r then a ++ more else a) → OnOk r (KnowsTransport t b)
 known_then_pushed t (Ok _) a b more k e = known_then t a b more k e
 known_then_pushed t (Err _) a b more k e = tt
 
+-- the block IF_DATA whose parts were pushed in turn stands in the text, where its end was pushed
 pub interface_pushed : {A E : Type 0} (t : Transport) (host : List ℕ) (port version : ℕ) (r : Result A E) (a b c d e others lines : List ℕ) → version < 256 → lines ≡ reached_lines version port host → b ≡ a ++ codes "    /begin IF_DATA XCP\n" → c ≡ b ++ others → d ≡ c ++ transport_block t lines → e ≡ (if is_ok r then d ++ codes "    /end IF_DATA\n" else d) → OnOk r (HasInterface t host port e)
 interface_pushed t host port version (Ok _) a b c d e others lines v l p q r s = interface_now t host port version a b c d e others lines v l p q r s
 interface_pushed t host port version (Err _) a b c d e others lines v l p q r s = tt

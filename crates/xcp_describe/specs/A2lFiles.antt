@@ -5,7 +5,7 @@ use Rattle.xcp_config.specs.ConfigText.{HasLayoutWith}
 use Rattle.xcp_config.specs.TableLayout.{File}
 use Rattle.xcp_describe.specs.declared.refusal.DescribeError.{DescribeError}
 use Rattle.xcp_describe.specs.EntryFaults.{IsFirstRefusal}
-use Rattle.xcp_describe.specs.Files.{IsFile, TellsEpk, epk_of}
+use Rattle.xcp_describe.specs.Files.{HasA2lForm, TellsEpk, epk_of}
 
 -- with these files the configuration describes a layout, and whether this asks that tools get the A2L file from the slave
 pub record Uploads (files : List File) (config : List ℕ) (uploads : Bool) : Type 0 where
@@ -15,14 +15,14 @@ pub record Uploads (files : List File) (config : List ℕ) (uploads : Bool) : Ty
 
 -- the text is an A2L file of the configuration: where tools get it from the slave, it tells the configuration's EPK
 pub record IsFileOf (files : List File) (config text : List ℕ) : Type 0 where
-  pub file : IsFile text
+  pub file : HasA2lForm text
   pub epk : Uploads files config true → TellsEpk (epk_of config) text
 
 -- an A2L file that tools get from the slave: it has the EPK that its text tells, and no parameter and no measurement is refused
 pub record IsA2l (files : List File) (config : List ℕ) (file : A2lFileValue) : Type 0 where
   pub asked : Uploads files config true
   pub epk : file.epk ≡ epk_of config
-  pub text : IsFile file.text
+  pub text : HasA2lForm file.text
   pub told : TellsEpk file.epk file.text
   pub entries : IsFirstRefusal files config None
 

@@ -4,8 +4,8 @@ use Rattle.std.specs.Prelude.{ℕ, Bool, true, false, not, ◌&&◌, ◌==◌, L
 use Rattle.std.specs.List.{list_any}
 use Rattle.std.specs.Str.{bytes_eq}
 use Rattle.toml.specs.Data.{Data, get}
-use Rattle.xcp_config.specs.TomlValues.{text_of}
-use Rattle.xcp_describe.specs.EntryValues.{count_of, mask_in, name_of, size_in}
+use Rattle.xcp_config.specs.TomlValues.{value_text}
+use Rattle.xcp_describe.specs.EntryValues.{count_of, mask_in, name_of, type_size}
 
 -- what stands at a key that is looked at in a parameter alone: no measurement has axes
 abbrev pub given : Bool → List ℕ → Data → Option Data
@@ -13,7 +13,7 @@ given is_parameter key d = if is_parameter then get key d else None
 
 -- the name of an axis, if one is given: what is no text is an empty one, which is no name
 abbrev pub axis_in : Bool → List ℕ → Data → Option (List ℕ)
-axis_in is_parameter key d = option_map (λ v. text_of (Some v)) (given is_parameter key d)
+axis_in is_parameter key d = option_map (λ v. value_text (Some v)) (given is_parameter key d)
 
 -- A parameter as its axes are looked at: its name, how many values it has, in what rows, whether some of their bits alone count, and
 -- the names of its axes.
@@ -30,8 +30,8 @@ abbrev pub form_of : Data → Form
 form_of d = record {
   name = name_of d;
   count = count_of d;
-  columns = size_in (codes "columns") d;
-  rows = size_in (codes "rows") d;
+  columns = type_size (codes "columns") d;
+  rows = type_size (codes "rows") d;
   masked = is_some (mask_in d);
   x_axis = axis_in true (codes "x_axis") d;
   y_axis = axis_in true (codes "y_axis") d;

@@ -18,10 +18,10 @@ use Rattle.xcp_describe.specs.declared.refusal.Why.{Why}
 use Rattle.xcp_describe.specs.declared.refusal.Why.TheVariants as why
 use Rattle.xcp_describe.specs.declared.refusal.DescribeError.{DescribeError}
 use Rattle.xcp_describe.specs.declared.refusal.DescribeError.TheVariants.{Parameter, Measurement}
-use Rattle.xcp_describe.specs.EntryValues.{ValueType, are_limits, bounds_of, bytes_in, factor_in, factor_of, first_of, high_in, is_array_or_none, is_event, is_group, is_mask, is_name, is_count, is_shape, is_text_or_none, low_in, name_of, offset_in, some_and, type_in, type_of}
+use Rattle.xcp_describe.specs.EntryValues.{ValueType, are_limits, bounds_of, value_bytes, factor_in, factor_of, first_of, high_in, is_array_or_none, is_event, is_group, is_mask, is_name, is_count, is_shape, is_label_or_none, low_in, name_of, offset_in, some_and, type_in, type_of}
 use Rattle.xcp_describe.specs.NumberNames.{are_names}
 use Rattle.xcp_describe.specs.Axes.{Form, form_of, has_axes}
-use Rattle.xcp_describe.specs.UnreadKeys.{is_among}
+use Rattle.xcp_describe.specs.UnreadKeys.{is_key_among}
 
 -- the faults of the count, and of columns and rows
 abbrev pub shape_faults : Data → List (Bool × Why)
@@ -57,8 +57,8 @@ limit_faults bounds factor d =
 -- those of the texts
 abbrev pub text_faults : Data → List (Bool × Why)
 text_faults d =
-    must (is_text_or_none (get (codes "unit") d)) why.Unit
-    ∷ must (is_text_or_none (get (codes "about") d)) why.About
+    must (is_label_or_none (get (codes "unit") d)) why.Unit
+    ∷ must (is_label_or_none (get (codes "about") d)) why.About
     ∷ []
 
 -- those of an entry by itself
@@ -77,16 +77,16 @@ meaning_faults t d =
 abbrev pub parameter_faults : LayoutValue → List (List ℕ) → Data → List (Bool × Why)
 parameter_faults l earlier d =
     entry_faults d
-    ++ (is_among (name_of d) earlier, why.Taken)
-    ∷ must (is_some (segment_of l (first_of d) (bytes_in d))) why.NoSegment
+    ++ (is_key_among (name_of d) earlier, why.Taken)
+    ∷ must (is_some (segment_of l (first_of d) (value_bytes d))) why.NoSegment
     ∷ meaning_faults (type_of d) d
 
 -- those of a measurement: all its bytes lie in one segment or in the signals, and its event channel is one of the layout
 abbrev pub measurement_faults : LayoutValue → List (List ℕ) → Data → List (Bool × Why)
 measurement_faults l earlier d =
     entry_faults d
-    ++ (is_among (name_of d) earlier, why.Taken)
-    ∷ must (lies_inside l (first_of d) (bytes_in d)) why.NoMemory
+    ++ (is_key_among (name_of d) earlier, why.Taken)
+    ∷ must (lies_inside l (first_of d) (value_bytes d)) why.NoMemory
     ∷ must (is_event (length l.events) d) why.Event
     ∷ meaning_faults (type_of d) d
 

@@ -8,7 +8,7 @@ use Rattle.toml.specs.Data.{Data, as_array, as_float, as_integer, as_str, get}
 use Rattle.xcp_memory.specs.LayoutParts.{number}
 use Rattle.xcp_memory.specs.Limits.{is_within}
 use Rattle.xcp_config.specs.TableLayout.{address_of}
-use Rattle.xcp_config.specs.TomlValues.{integer_of, named, text_of}
+use Rattle.xcp_config.specs.TomlValues.{integer_of, named, value_text}
 use Rattle.xcp_describe.specs.EntryTexts.{is_text_of_entry}
 
 -- a value that is there and passes a test
@@ -35,18 +35,18 @@ abbrev pub is_name : List ℕ → Bool
 is_name s = some_and (λ c. not (is_ascii_digit c)) (slice_get s 0) && nat_le (length s) 117 && list_all is_name_character s
 
 abbrev pub name_of : Data → List ℕ
-name_of d = text_of (get (codes "name") d)
+name_of d = value_text (get (codes "name") d)
 
 -- the name of the group that an entry is in, if it is given: an identifier
 abbrev pub is_group : Data → Bool
 is_group d = none_or (λ v. some_and is_name (as_str v)) (get (codes "group") d)
 
 abbrev pub group_in : Data → Option (List ℕ)
-group_in d = option_map (λ v. text_of (Some v)) (get (codes "group") d)
+group_in d = option_map (λ v. value_text (Some v)) (get (codes "group") d)
 
 -- a unit, or what an entry is about, if it is there
-abbrev pub is_text_or_none : Option Data → Bool
-is_text_or_none v = none_or (λ x. some_and is_text_of_entry (as_str x)) v
+abbrev pub is_label_or_none : Option Data → Bool
+is_label_or_none v = none_or (λ x. some_and is_text_of_entry (as_str x)) v
 
 -- The type of a value: how many bytes it has, the mask of all its bits, 0 of a float, and the least and the greatest number. `fin s m e` is m times two to the e, and negative
 -- where s is true.
@@ -105,8 +105,8 @@ type_of d = unwrap_or (type_in d) ubyte
 abbrev pub is_size : List ℕ → Data → Bool
 is_size key d = none_or (λ v. some_and (is_within 1 0xFFFF) (as_integer v)) (get key d)
 
-abbrev pub size_in : List ℕ → Data → Option ℕ
-size_in key d = option_map (λ v. number (integer_of (Some v))) (get key d)
+abbrev pub type_size : List ℕ → Data → Option ℕ
+type_size key d = option_map (λ v. number (integer_of (Some v))) (get key d)
 
 -- how many values stand one behind the other
 abbrev pub is_count : Data → Bool
@@ -122,21 +122,21 @@ abbrev pub is_shape : Data → Bool
 is_shape d =
     is_size (codes "columns") d
     && is_size (codes "rows") d
-    && are_rows (size_in (codes "count") d) (size_in (codes "columns") d) (size_in (codes "rows") d)
+    && are_rows (type_size (codes "count") d) (type_size (codes "columns") d) (type_size (codes "rows") d)
 
 -- how many values there are in all: each of the three numbers is 1 where it isn't given
 abbrev pub values_of : Option ℕ → Option ℕ → Option ℕ → ℕ
 values_of count columns rows = unwrap_or count 1 * (unwrap_or columns 1 * unwrap_or rows 1)
 
 abbrev pub count_of : Data → ℕ
-count_of d = values_of (size_in (codes "count") d) (size_in (codes "columns") d) (size_in (codes "rows") d)
+count_of d = values_of (type_size (codes "count") d) (type_size (codes "columns") d) (type_size (codes "rows") d)
 
 -- the first address, and how many bytes all values have
 abbrev pub first_of : Data → ℕ
 first_of d = number (address_of d)
 
-abbrev pub bytes_in : Data → ℕ
-bytes_in d = (type_of d).size * count_of d
+abbrev pub value_bytes : Data → ℕ
+value_bytes d = (type_of d).size * count_of d
 
 -- the number of an event channel, of so many, if it is given
 abbrev pub is_below : ℕ → ℤ → Bool
@@ -146,8 +146,8 @@ is_below n (negsuc k) = false
 abbrev pub is_event : ℕ → Data → Bool
 is_event channels d = none_or (λ v. some_and (is_below channels) (as_integer v)) (get (codes "event") d)
 
-abbrev pub event_in : Data → Option ℕ
-event_in d = option_map (λ v. number (integer_of (Some v))) (get (codes "event") d)
+abbrev pub event_number : Data → Option ℕ
+event_number d = option_map (λ v. number (integer_of (Some v))) (get (codes "event") d)
 
 -- a mask of the bits of a value that count, if it is given: one of them at least, and none that a type of integers hasn't
 abbrev pub is_mask : ValueType → Data → Bool

@@ -12,7 +12,7 @@ marked text = if list_all is_ascii text then text else 0xEF ∷ 0xBB ∷ 0xBF �
 
 -- it begins with its version and the block PROJECT, and ends with the ends of the blocks MODULE and PROJECT; it is UTF-8, with that
 -- mark before it or without
-pub record IsFile (text : List ℕ) : Type 0 where
+pub record HasA2lForm (text : List ℕ) : Type 0 where
   pub utf8 : IsUtf8 text
   pub blocks : List ℕ
   pub framed : text ≡ marked (codes "ASAP2_VERSION 1 60\n/begin PROJECT xcpd " ++ blocks ++ codes "  /end MODULE\n/end PROJECT\n")

@@ -6,7 +6,7 @@ use Rattle.toml.specs.Parse.{parse_document}
 use Rattle.xcp_config.specs.declared.config_error.ConfigError.{ConfigError}
 use Rattle.xcp_config.specs.declared.config_error.ConfigError.TheVariants.{Text}
 use Rattle.xcp_config.specs.ConfigText.{IsNoDocument}
-use Rattle.xcp_config.specs.TableChecks.{first_fault}
+use Rattle.xcp_config.specs.TableChecks.{first_table_fault}
 use Rattle.xcp_config.specs.TableLayout.{File, layout_in}
 use Rattle.xcp_describe.specs.declared.findings.Findings.{Findings}
 use Rattle.xcp_describe.specs.declared.refusal.DescribeError.{DescribeError}
@@ -29,16 +29,16 @@ pub record IsUnreadable (file : List ℕ) (f : Findings) (text : List ℕ) : Typ
   pub cause : ((¬ (IsUtf8 file)) × (text ≡ no_utf8_text)) ⊎ (IsNoDocument file × IsSyntaxLine text)
 
 -- a parameter or a measurement was refused
-abbrev pub IsEntry : DescribeError → Type 0
-IsEntry Host = ⊥
-IsEntry (Program fault) = ⊥
-IsEntry (Parameter number why) = ⊤
-IsEntry (Measurement number why) = ⊤
+abbrev pub IsEntryFault : DescribeError → Type 0
+IsEntryFault Host = ⊥
+IsEntryFault (Program fault) = ⊥
+IsEntryFault (Parameter number why) = ⊤
+IsEntryFault (Measurement number why) = ⊤
 
 -- the first fault of the entries of a document, where its layout with these files has none
-abbrev pub refused_in : List File → Option ConfigError → Data → Option DescribeError
-refused_in files None t = first_refusal (layout_in files t) t
-refused_in files (Some fault) t = None
+abbrev pub refused_entry : List File → Option ConfigError → Data → Option DescribeError
+refused_entry files None t = first_refusal (layout_in files t) t
+refused_entry files (Some fault) t = None
 
 -- What is found in a document whose segments may name these files: the first fault of its layout, exactly if that has one; as many unread
 -- keys as there are; an entry only where the layout has no fault, and then the first one that has a fault, with its first fault, exactly if
@@ -46,10 +46,10 @@ refused_in files (Some fault) t = None
 pub record IsChecked (files : List File) (file : List ℕ) (f : Findings) (text : List ℕ) : Type 0 where
   pub members : Members
   pub document : parse_document file ≡ Some members
-  pub fault : f.fault ≡ first_fault files (table members)
+  pub fault : f.fault ≡ first_table_fault files (table members)
   pub unread : f.unread ≡ length (unread_keys (table members))
-  pub refused : IfSome f.refused (λ e. IsEntry e × (f.fault ≡ None))
-  pub first : f.refused ≡ refused_in files f.fault (table members)
+  pub refused : IfSome f.refused (λ e. IsEntryFault e × (f.fault ≡ None))
+  pub first : f.refused ≡ refused_entry files f.fault (table members)
   pub told : text ≡ findings_text f.fault (unread_keys (table members)) f.refused
 
 -- what a check found and wrote: the line that says that nothing was found exactly where nothing was

@@ -29,8 +29,8 @@ line_if line None = []
 line_if line (Some x) = line x
 
 -- all lines, in their order
-abbrev pub lines_of : Option ConfigError → List PlacedKey → Option DescribeError → List ℕ
-lines_of fault keys refused = line_if fault_line fault ++ flat_map unread_line keys ++ line_if refused_line refused
+abbrev pub finding_lines : Option ConfigError → List PlacedKey → Option DescribeError → List ℕ
+finding_lines fault keys refused = line_if fault_line fault ++ flat_map unread_line keys ++ line_if refused_line refused
 
 -- the line that says that nothing was found
 abbrev pub clean_text : List ℕ
@@ -41,13 +41,13 @@ or_clean lines = if length lines == 0 then clean_text else lines
 
 -- what is written of a document
 abbrev pub findings_text : Option ConfigError → List PlacedKey → Option DescribeError → List ℕ
-findings_text fault keys refused = or_clean (lines_of fault keys refused)
+findings_text fault keys refused = or_clean (finding_lines fault keys refused)
 
 -- text of characters none of which is a control character
 abbrev pub is_plain : List ℕ → Bool
 is_plain cs = list_all (λ c. not (is_control c)) cs
 
-pub record IsPlain (text : List ℕ) : Type 0 where
+pub record IsPlainText (text : List ℕ) : Type 0 where
   pub characters : List ℕ
   pub plain : is_plain characters ≡ true
   pub encoded : text ≡ encode_utf8_all characters
@@ -55,7 +55,7 @@ pub record IsPlain (text : List ℕ) : Type 0 where
 -- what is written of a file that is no document: one line, whose words tell the place and the cause
 pub record IsSyntaxLine (text : List ℕ) : Type 0 where
   pub words : List ℕ
-  pub plain : IsPlain words
+  pub plain : IsPlainText words
   pub line : text ≡ codes "configuration 1" ++ words ++ codes "\n"
 
 -- of one that isn't UTF-8 this one

@@ -1,7 +1,7 @@
 -- The words of a refusal, and the status that goes with it.
 use Rattle.std.specs.Prelude.{ℕ, List, ◌++◌, codes, Option, Some, None}
 use Rattle.std.specs.Fmt.{decimal}
-use Rattle.xcp_program.specs.ExitStatus.{status_of}
+use Rattle.xcp_program.specs.ExitStatus.{exit_status}
 use Rattle.xcp_describe.specs.declared.refusal.Why.{Why}
 use Rattle.xcp_describe.specs.declared.refusal.Why.TheVariants as why
 use Rattle.xcp_describe.specs.declared.refusal.DescribeError.{DescribeError}
@@ -43,6 +43,6 @@ shown_refusal (Measurement number w) = Some (entry_words (codes "measurement") n
 -- the exit status
 abbrev pub status_of_description : DescribeError → ℕ
 status_of_description Host = 1
-status_of_description (Program fault) = status_of fault
+status_of_description (Program fault) = exit_status fault
 status_of_description (Parameter number w) = 1
 status_of_description (Measurement number w) = 1

@@ -32,14 +32,14 @@ abbrev pub measurement_keys : List (List ℕ)
 measurement_keys = codes "name" ∷ codes "address" ∷ codes "type" ∷ codes "count" ∷ codes "columns" ∷ codes "rows" ∷ codes "event" ∷ codes "bits" ∷ codes "values" ∷ codes "group" ∷ codes "unit" ∷ codes "about" ∷ codes "factor" ∷ codes "offset" ∷ codes "low" ∷ codes "high" ∷ []
 
 -- the key is one of these
-abbrev pub is_among : List ℕ → List (List ℕ) → Bool
-is_among key known = list_any (bytes_eq key) known
+abbrev pub is_key_among : List ℕ → List (List ℕ) → Bool
+is_key_among key known = list_any (bytes_eq key) known
 
 -- the keys of a table's members that aren't
 abbrev pub unread_members : Place → List (List ℕ) → Members → List PlacedKey
 unread_members place known no_members = []
 unread_members place known (member key d rest) =
-    if is_among key known then unread_members place known rest
+    if is_key_among key known then unread_members place known rest
     else record { place = place; key = key } ∷ unread_members place known rest
 
 -- the same of a value, which has none where it is no table

@@ -6,9 +6,9 @@ ghost use Rattle.toml.specs.View.{view};
 ghost use Rattle.xcp_framing.specs.Prefix.{AppendsFront};
 ghost use Rattle.xcp_memory.specs.Layout.{LayoutValue};
 ghost use Rattle.xcp_config.specs.ConfigText.{HasLayoutWith};
-ghost use Rattle.xcp_config.specs.TableChecks.{first_fault};
+ghost use Rattle.xcp_config.specs.TableChecks.{first_table_fault};
 ghost use Rattle.xcp_describe.specs.EntryFaults.{first_refusal};
-ghost use Rattle.xcp_describe.specs.Findings.{IsClean, IsEntry, IsFound, refused_in, unreadable};
+ghost use Rattle.xcp_describe.specs.Findings.{IsClean, IsEntryFault, IsFound, refused_entry, unreadable};
 ghost use Rattle.xcp_describe.specs.FindingsText.{IsSyntaxLine, clean_text, fault_line, findings_text, line_if, no_utf8_text, refused_line, unread_line};
 ghost use Rattle.xcp_describe.specs.private.Document.{IsDocument};
 ghost use Rattle.xcp_describe.specs.private.TableKeys.{keys_of};
@@ -139,10 +139,10 @@ fn layout_findings(
     document: &Value,
 ) -> Result<(Option<ConfigError>, Option<DescribeError>), Fault>
     requires { IsDocument config.now (view document.now) }
-    ensures fault { IfOk result (λ r. r.0 ≡ first_fault files.now (view document.now)) }
+    ensures fault { IfOk result (λ r. r.0 ≡ first_table_fault files.now (view document.now)) }
     ensures layout { IfOk result (λ r. r.0 ≡ None → (l : LayoutValue) × HasLayoutWith files.now config.now l) }
-    ensures entry { IfOk result (λ r. IfSome r.1 (λ e. IsEntry e × (r.0 ≡ None))) }
-    ensures first { IfOk result (λ r. r.1 ≡ refused_in files.now r.0 (view document.now)) }
+    ensures entry { IfOk result (λ r. IfSome r.1 (λ e. IsEntryFault e × (r.0 ≡ None))) }
+    ensures first { IfOk result (λ r. r.1 ≡ refused_entry files.now r.0 (view document.now)) }
     ensures refused { IfErr result (λ e. e ≡ Fault.Memory) }
 {
     match read_layout_with(alloc, config, files) {
@@ -158,7 +158,7 @@ fn refused_in(
     document: &Value,
     layout: &Layout,
 ) -> Result<Option<DescribeError>, Fault>
-    ensures entry { IfOk result (λ r. IfSome r IsEntry) }
+    ensures entry { IfOk result (λ r. IfSome r IsEntryFault) }
     ensures first { IfOk result (λ r. r ≡ first_refusal layout.now (view document.now)) }
     ensures refused { IfErr result (λ e. e ≡ Fault.Memory) }
 {
@@ -176,7 +176,7 @@ fn text_of(
     unread: &[Unread<'_>],
     refused: Option<DescribeError>,
 ) -> Result<String, AllocError>
-    requires { IfSome refused IsEntry }
+    requires { IfSome refused IsEntryFault }
     ensures { IfOk result (λ text. string_bytes text ≡ findings_text fault (keys_of unread.now) refused) }
 {
     let mut text = String::new(alloc);
@@ -215,7 +215,7 @@ fn put_unread(unread: &[Unread<'_>], text: &mut String) -> Result<(), AllocError
 
 /// Appends the line of an entry that is refused, if there is one.
 fn put_refused(refused: Option<DescribeError>, text: &mut String) -> Result<(), AllocError>
-    requires { IfSome refused IsEntry }
+    requires { IfSome refused IsEntryFault }
     ensures { OnOk result (string_bytes text.new ≡ string_bytes text.old ++ line_if refused_line refused) }
 {
     match refused {

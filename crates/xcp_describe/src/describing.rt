@@ -9,8 +9,8 @@ ghost use Rattle.xcp_config.specs.ConfigText.{HasLayoutWith};
 ghost use Rattle.xcp_program.specs.ReplayOutcome.{IsFaultWith};
 ghost use Rattle.xcp_describe.specs.A2lFiles.{IsFileOf};
 ghost use Rattle.xcp_describe.specs.EntryFaults.{IsFirstRefusal, IsFirstRefusalIn};
-ghost use Rattle.xcp_describe.specs.Files.{IsFile, TellsEpk, epk_line, epk_of, marked};
-ghost use Rattle.xcp_describe.specs.Findings.{IsEntry};
+ghost use Rattle.xcp_describe.specs.Files.{HasA2lForm, TellsEpk, epk_line, epk_of, marked};
+ghost use Rattle.xcp_describe.specs.Findings.{IsEntryFault};
 ghost use Rattle.xcp_describe.specs.Hosts.{IsHost};
 ghost use Rattle.xcp_describe.specs.Transports.{TellsTransport};
 ghost use Rattle.xcp_describe.specs.private.Refusals.{IsEntryOrMemory};
@@ -73,7 +73,7 @@ pub fn describe<W: Write>(
     ensures configuration { (f : Fault) → result ≡ Err (DescribeError.Program f) → (f ≡ Fault.Memory) ⊎ (f ≡ Fault.Stream 2) ⊎ IsFaultWith files.now config.now f }
     // An entry is refused exactly if one has a fault, if memory doesn't run out first: the first that has one, with its first fault.
     ensures entries { OnOk result (IsFirstRefusal files.now config.now None) }
-    ensures entry { IfErr result (λ e. IsEntry e → IsFirstRefusal files.now config.now (Some e)) }
+    ensures entry { IfErr result (λ e. IsEntryFault e → IsFirstRefusal files.now config.now (Some e)) }
     ensures entries_first { result ≡ Err (DescribeError.Program (Fault.Stream 2)) → IsFirstRefusal files.now config.now None }
     // A fault of the writer comes exactly where a write failed, and any other before anything is written.
     ensures write { result ≡ Err (DescribeError.Program (Fault.Stream 2)) → writer.new.failures ≡ writer.old.failures + 1 }
@@ -104,12 +104,12 @@ pub(crate) fn described(
     layout: Layout,
     reached: Reached<'_>,
 ) -> Result<String, DescribeError>
-    ensures file { IfOk result (λ text. IsFile (string_bytes text)) }
+    ensures file { IfOk result (λ text. HasA2lForm (string_bytes text)) }
     ensures epk { layout.extras.uploads_a2l ≡ true → IfOk result (λ text. TellsEpk (epk_of config.now) (string_bytes text)) }
     ensures transport { IfOk result (λ text. TellsTransport reached.entry.transport reached.entry.host.now reached.entry.port (string_bytes text)) }
     ensures refused { IfErr result IsEntryOrMemory }
     ensures entries { IfOk result (λ _. IsFirstRefusalIn layout config.now None) }
-    ensures entry { IfErr result (λ e. IsEntry e → IsFirstRefusalIn layout config.now (Some e)) }
+    ensures entry { IfErr result (λ e. IsEntryFault e → IsFirstRefusalIn layout config.now (Some e)) }
 {
     let Ok(table) = toml::table_from_str(alloc, config) else {
         return Err(DescribeError::Program(Fault::Memory));
@@ -130,7 +130,7 @@ fn text_of(
     tables: &Tables<'_>,
     reached: Reached<'_>,
 ) -> Result<String, AllocError>
-    ensures file { IfOk result (λ text. IsFile (string_bytes text)) }
+    ensures file { IfOk result (λ text. HasA2lForm (string_bytes text)) }
     ensures epk { layout.extras.uploads_a2l ≡ true → IfOk result (λ text. TellsEpk (epk_of config.now) (string_bytes text)) }
     ensures transport { IfOk result (λ text. TellsTransport reached.entry.transport reached.entry.host.now reached.entry.port (string_bytes text)) }
 {
@@ -162,7 +162,7 @@ fn text_of(
 /// The text with what stands before the block MOD_PAR, with the line of the EPK, and with what stands behind it: its first line, the
 /// head of that block, and the ends of the blocks around all; and its byte order mark, if it needs one.
 fn whole(alloc: Global, front: &str, epk: &str, rest: &str) -> Result<String, AllocError>
-    ensures file { IfOk result (λ text. IsFile (string_bytes text)) }
+    ensures file { IfOk result (λ text. HasA2lForm (string_bytes text)) }
     ensures told { (digits : List ℕ) → epk.now ≡ epk_line digits → IfOk result (λ text. TellsEpk digits (string_bytes text)) }
     ensures transport { (t : Transport) → (host : List ℕ) → (port : ℕ) → KnowsTransport t front.now → HasInterface t host port rest.now
         → IfOk result (λ text. TellsTransport t host port (string_bytes text)) }

@@ -7,12 +7,12 @@ ghost use Rattle.toml.specs.Data.{as_integer, as_str, get};
 ghost use Rattle.toml.specs.View.{view};
 ghost use Rattle.xcp_packet.specs.Rows.{first_holding};
 ghost use Rattle.xcp_memory.specs.Limits.{is_within};
-ghost use Rattle.xcp_config.specs.TomlValues.{text_of};
+ghost use Rattle.xcp_config.specs.TomlValues.{value_text};
 ghost use Rattle.xcp_memory.specs.ComputedAccess.{lies_inside, segment_of};
 ghost use Rattle.xcp_describe.specs.Axes.{axis_in, has_axes, has_axis, is_axis};
-ghost use Rattle.xcp_describe.specs.EntryValues.{event_in, factor_in, first_of, in_order, in_unit, is_event, is_name, is_name_character, is_of_32_bits, is_text_or_none, name_of, number_or, offset_in, some_and, type_in};
+ghost use Rattle.xcp_describe.specs.EntryValues.{event_number, factor_in, first_of, in_order, in_unit, is_event, is_name, is_name_character, is_of_32_bits, is_label_or_none, name_of, number_or, offset_in, some_and, type_in};
 ghost use Rattle.xcp_describe.specs.EntryFaults.{entry_faults, limit_faults};
-ghost use Rattle.xcp_describe.specs.private.EntriesRead.{IsRead, form_read, forms_of, type_named};
+ghost use Rattle.xcp_describe.specs.private.EntriesRead.{IsEntryRead, form_read, forms_of, type_named};
 ghost use Rattle.xcp_describe.specs.private.FiniteNumbers.{HasFiniteNumbers, IsFinite};
 
 use crate::kind::Kind;
@@ -55,7 +55,7 @@ impl<'a> Entry<'a> {
     pub(crate) fn read(table: &'a Value, is_parameter: bool) -> Result<Entry<'a>, Why>
         ensures finite { IfOk result HasFiniteNumbers }
         ensures passes { IfOk result (λ _. first_holding (entry_faults (view table.now)) ≡ None) }
-        ensures read { IfOk result (λ e. IsRead is_parameter (view table.now) e) }
+        ensures read { IfOk result (λ e. IsEntryRead is_parameter (view table.now) e) }
         ensures refused { IfErr result (λ e. first_holding (entry_faults (view table.now)) ≡ Some e) }
     {
         let name = name_in(table)?;
@@ -264,7 +264,7 @@ fn axis_in<'a>(table: &'a Value, key: &str, is_parameter: bool) -> Option<&'a st
 /// The number of an event channel of a layout, which has 8 at most, if one is given.
 pub(crate) fn event_in(table: &Value, layout: &Layout) -> Result<Option<u16>, Why>
     ensures passes { IfOk result (λ _. is_event (length layout.now.events) (view table.now) ≡ true) }
-    ensures value { IfOk result (λ n. n ≡ event_in (view table.now)) }
+    ensures value { IfOk result (λ n. n ≡ event_number (view table.now)) }
     ensures refused { IfErr result (λ e. (e ≡ Why.Event) × (is_event (length layout.now.events) (view table.now) ≡ false)) }
 {
     let channels = layout.event_count();
@@ -331,9 +331,9 @@ pub(crate) fn whole_number(number: i64) -> Result<f64, Why>
 
 /// A unit, or what an entry is about: a text, none where none is given.
 fn text_in<'a>(table: &'a Value, key: &str, why: Why) -> Result<&'a str, Why>
-    ensures passes { IfOk result (λ _. is_text_or_none (get key.now (view table.now)) ≡ true) }
-    ensures value { IfOk result (λ s. s.now ≡ text_of (get key.now (view table.now))) }
-    ensures refused { IfErr result (λ e. (e ≡ why) × (is_text_or_none (get key.now (view table.now)) ≡ false)) }
+    ensures passes { IfOk result (λ _. is_label_or_none (get key.now (view table.now)) ≡ true) }
+    ensures value { IfOk result (λ s. s.now ≡ value_text (get key.now (view table.now))) }
+    ensures refused { IfErr result (λ e. (e ≡ why) × (is_label_or_none (get key.now (view table.now)) ≡ false)) }
 {
     let text = match table.get(key) {
         Some(value) => value.as_str().ok_or(why)?,

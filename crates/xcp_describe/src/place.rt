@@ -15,9 +15,9 @@ pub(crate) enum Place {
 impl fmt::Display for Place {
     ghost use Rattle.std.specs.Prelude.{Some};
     ghost use Rattle.xcp_describe.specs.Places.{place_text};
-    ghost use Rattle.xcp_describe.specs.private.TableKeys.{place_of};
+    ghost use Rattle.xcp_describe.specs.private.TableKeys.{bare_place};
 
-    ghost output = { λ place. Some (place_text (place_of place)) };
+    ghost output = { λ place. Some (place_text (bare_place place)) };
 
     fn fmt<W: fmt::Write>(&self, f: &mut fmt::Formatter<W>) -> fmt::Result {
         match self {

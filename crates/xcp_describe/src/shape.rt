@@ -3,7 +3,7 @@ ghost use Rattle.std.specs.Prelude.{◌≡◌, codes, Some, None, true, false, I
 ghost use Rattle.toml.specs.View.{view};
 ghost use Rattle.xcp_packet.specs.Rows.{first_holding};
 ghost use Rattle.xcp_describe.specs.EntryFaults.{shape_faults};
-ghost use Rattle.xcp_describe.specs.EntryValues.{are_rows, count_of, is_size, size_in, values_of};
+ghost use Rattle.xcp_describe.specs.EntryValues.{are_rows, count_of, is_size, type_size, values_of};
 
 use crate::refusal::Why;
 use toml::Value;
@@ -27,8 +27,8 @@ impl Shape {
     pub(crate) fn read(table: &Value) -> Result<Shape, Why>
         ensures passes { IfOk result (λ _. first_holding (shape_faults (view table.now)) ≡ None) }
         ensures count { IfOk result (λ s. unwrap_or s.count 1 ≡ count_of (view table.now)) }
-        ensures columns { IfOk result (λ s. s.columns ≡ size_in (codes "columns") (view table.now)) }
-        ensures rows { IfOk result (λ s. s.rows ≡ size_in (codes "rows") (view table.now)) }
+        ensures columns { IfOk result (λ s. s.columns ≡ type_size (codes "columns") (view table.now)) }
+        ensures rows { IfOk result (λ s. s.rows ≡ type_size (codes "rows") (view table.now)) }
         ensures refused { IfErr result (λ e. first_holding (shape_faults (view table.now)) ≡ Some e) }
     {
         let count = size_in(table, "count", Why::Count)?;
@@ -45,7 +45,7 @@ impl Shape {
 /// A number of values, 1 to 65,535 as an A2L file has them, if it is given, and it may be.
 fn size_in(table: &Value, key: &str, why: Why) -> Result<Option<u16>, Why>
     ensures passes { IfOk result (λ _. is_size key.now (view table.now) ≡ true) }
-    ensures value { IfOk result (λ n. n ≡ size_in key.now (view table.now)) }
+    ensures value { IfOk result (λ n. n ≡ type_size key.now (view table.now)) }
     ensures refused { IfErr result (λ e. (e ≡ why) × (is_size key.now (view table.now) ≡ false)) }
 {
     let number = match table.get(key) {

@@ -7,11 +7,11 @@ ghost use Rattle.xcp_packet.specs.Rows.{first_holding};
 ghost use Rattle.xcp_config.specs.TomlValues.{members_of};
 ghost use Rattle.xcp_describe.specs.EntryFaults.{axes_checks, first_refusal, measurement_checks, measurement_faults, measurements_checks, parameter_checks, parameter_faults, parameters_checks, parameters_in};
 ghost use Rattle.xcp_describe.specs.Axes.{form_of};
-ghost use Rattle.xcp_describe.specs.EntryValues.{event_in, group_in, is_array_or_none, mask_in, name_of};
+ghost use Rattle.xcp_describe.specs.EntryValues.{event_number, group_in, is_array_or_none, mask_in, name_of};
 ghost use Rattle.xcp_describe.specs.NumberNames.{pairs_in};
-ghost use Rattle.xcp_describe.specs.UnreadKeys.{is_among};
+ghost use Rattle.xcp_describe.specs.UnreadKeys.{is_key_among};
 ghost use Rattle.xcp_describe.specs.private.EntriesRead.{form_read, forms_of, names_of};
-ghost use Rattle.xcp_describe.specs.private.Refusals.{IsEntryOrMemory, Refuses};
+ghost use Rattle.xcp_describe.specs.private.Refusals.{IsEntryOrMemory, RefusesEntry};
 
 use crate::entry::{Entry, event_in};
 use crate::meaning::Meaning;
@@ -37,7 +37,7 @@ impl<'a> Tables<'a> {
     ) -> Result<Tables<'a>, DescribeError>
         ensures passes { IfOk result (λ _. first_refusal layout.now (view document.now) ≡ None) }
         ensures refused { IfErr result IsEntryOrMemory }
-        ensures first { IfErr result (λ e. Refuses (first_refusal layout.now (view document.now)) e) }
+        ensures first { IfErr result (λ e. RefusesEntry (first_refusal layout.now (view document.now)) e) }
     {
         let parameters = read_parameters(alloc, document, layout)?;
         let measurements = read_measurements(alloc, document, layout, parameters.as_slice())?;
@@ -57,7 +57,7 @@ fn read_parameters<'a>(
 ) -> Result<Vec<Entry<'a>>, DescribeError>
     ensures passes { IfOk result (λ _. first_holding (parameters_checks layout.now (view document.now)) ≡ None) }
     ensures names { IfOk result (λ es. names_of es.items ≡ map name_of (parameters_in (view document.now))) }
-    ensures refused { IfErr result (λ e. Refuses (first_holding (parameters_checks layout.now (view document.now))) e) }
+    ensures refused { IfErr result (λ e. RefusesEntry (first_holding (parameters_checks layout.now (view document.now))) e) }
 {
     let Some(members) = members_in(document, "parameter") else {
         return Err(DescribeError::Parameter(0, Why::Table));
@@ -76,7 +76,7 @@ fn each_parameter<'a>(
     ensures passes { IfOk result (λ _. first_holding (flat_map (parameter_checks layout.now (map view members.now)) (enumerate_from 0 (map view members.now))) ≡ None) }
     ensures names { IfOk result (λ es. names_of es.items ≡ map name_of (map view members.now)) }
     ensures forms { IfOk result (λ es. forms_of es.items ≡ map form_of (map view members.now)) }
-    ensures refused { IfErr result (λ e. Refuses (first_holding (flat_map (parameter_checks layout.now (map view members.now)) (enumerate_from 0 (map view members.now)))) e) }
+    ensures refused { IfErr result (λ e. RefusesEntry (first_holding (flat_map (parameter_checks layout.now (map view members.now)) (enumerate_from 0 (map view members.now)))) e) }
 {
     let mut entries = Vec::new(alloc);
     for (i, member) in members.iter().enumerate() {
@@ -91,7 +91,7 @@ fn each_parameter<'a>(
 /// Looks at the axes of these parameters, each of which may be one of another. The first parameter with a fault is refused.
 fn check_axes(parameters: &[Entry<'_>]) -> Result<(), DescribeError>
     ensures passes { IfOk result (λ _. first_holding (axes_checks (forms_of parameters.now)) ≡ None) }
-    ensures refused { IfErr result (λ e. Refuses (first_holding (axes_checks (forms_of parameters.now))) e) }
+    ensures refused { IfErr result (λ e. RefusesEntry (first_holding (axes_checks (forms_of parameters.now))) e) }
 {
     for (i, parameter) in parameters.iter().enumerate() {
         if !parameter.has_axes(parameters) {
@@ -111,7 +111,7 @@ fn read_measurements<'a>(
 ) -> Result<Vec<Entry<'a>>, DescribeError>
     requires { names_of parameters.now ≡ map name_of (parameters_in (view document.now)) }
     ensures passes { IfOk result (λ _. first_holding (measurements_checks layout.now (view document.now)) ≡ None) }
-    ensures refused { IfErr result (λ e. Refuses (first_holding (measurements_checks layout.now (view document.now))) e) }
+    ensures refused { IfErr result (λ e. RefusesEntry (first_holding (measurements_checks layout.now (view document.now))) e) }
 {
     match members_in(document, "measurement") {
         Some(members) => each_measurement(alloc, members, layout, parameters),
@@ -127,7 +127,7 @@ fn each_measurement<'a>(
     parameters: &[Entry<'_>],
 ) -> Result<Vec<Entry<'a>>, DescribeError>
     ensures passes { IfOk result (λ _. first_holding (flat_map (measurement_checks layout.now (names_of parameters.now) (map view members.now)) (enumerate_from 0 (map view members.now))) ≡ None) }
-    ensures refused { IfErr result (λ e. Refuses (first_holding (flat_map (measurement_checks layout.now (names_of parameters.now) (map view members.now)) (enumerate_from 0 (map view members.now)))) e) }
+    ensures refused { IfErr result (λ e. RefusesEntry (first_holding (flat_map (measurement_checks layout.now (names_of parameters.now) (map view members.now)) (enumerate_from 0 (map view members.now)))) e) }
 {
     let mut entries = Vec::new(alloc);
     for (i, member) in members.iter().enumerate() {
@@ -175,7 +175,7 @@ fn measurement<'a>(
     ensures passes { IfOk result (λ _. first_holding (measurement_faults layout.now (names_of parameters.now ++ names_of earlier.now) (view member.now)) ≡ None) }
     ensures name { IfOk result (λ e. e.name.now ≡ name_of (view member.now)) }
     ensures axes { IfOk result (λ e. ((form_read e).x_axis ≡ None) × ((form_read e).y_axis ≡ None)) }
-    ensures event { IfOk result (λ e. e.event ≡ event_in (view member.now)) }
+    ensures event { IfOk result (λ e. e.event ≡ event_number (view member.now)) }
     ensures bits { IfOk result (λ e. e.meaning.bits ≡ mask_in (view member.now)) }
     ensures names { IfOk result (λ e. map view e.meaning.names.now ≡ pairs_in (view member.now)) }
     ensures group { IfOk result (λ e. option_map (λ s. s.now) e.meaning.group ≡ group_in (view member.now)) }
@@ -197,7 +197,7 @@ fn measurement<'a>(
 
 /// Whether one of these has this name.
 fn is_taken(parameters: &[Entry<'_>], earlier: &[Entry<'_>], name: &str) -> bool
-    ensures { result ≡ is_among name.now (names_of parameters.now ++ names_of earlier.now) }
+    ensures { result ≡ is_key_among name.now (names_of parameters.now ++ names_of earlier.now) }
 {
     if has_name(parameters, name) {
         return true;
@@ -206,7 +206,7 @@ fn is_taken(parameters: &[Entry<'_>], earlier: &[Entry<'_>], name: &str) -> bool
 }
 
 fn has_name(entries: &[Entry<'_>], name: &str) -> bool
-    ensures { result ≡ is_among name.now (names_of entries.now) }
+    ensures { result ≡ is_key_among name.now (names_of entries.now) }
 {
     for entry in entries {
         if name == entry.name {

@@ -5,8 +5,8 @@ ghost use Rattle.toml.specs.Data.{get};
 ghost use Rattle.toml.specs.View.{table_view, view};
 ghost use Rattle.xcp_config.specs.TomlValues.{members_of};
 ghost use Rattle.xcp_describe.specs.FindingsText.{unread_line};
-ghost use Rattle.xcp_describe.specs.UnreadKeys.{is_among, unread_each, unread_keys, unread_member, unread_members, unread_named, unread_of};
-ghost use Rattle.xcp_describe.specs.private.TableKeys.{keys_of, place_of, placed};
+ghost use Rattle.xcp_describe.specs.UnreadKeys.{is_key_among, unread_each, unread_keys, unread_member, unread_members, unread_named, unread_of};
+ghost use Rattle.xcp_describe.specs.private.TableKeys.{keys_of, bare_place, placed};
 
 use crate::key_text::put_key;
 use crate::place::Place;
@@ -76,7 +76,7 @@ impl Unread<'_> {
 
 /// Whether a key is one of these.
 fn is_among(key: &str, known: &[&str]) -> bool
-    ensures { result ≡ is_among key.now (map (λ k. k.now) known.now) }
+    ensures { result ≡ is_key_among key.now (map (λ k. k.now) known.now) }
 {
     for name in known {
         if key == *name {
@@ -93,7 +93,7 @@ fn gather_keys<'a>(
     known: &[&str],
     found: &mut Vec<Unread<'a>>,
 ) -> Result<(), AllocError>
-    ensures { IfOk result (λ _. keys_of found.new.items ≡ keys_of found.old.items ++ unread_members (place_of place) (map (λ k. k.now) known.now) (table_view table.now)) }
+    ensures { IfOk result (λ _. keys_of found.new.items ≡ keys_of found.old.items ++ unread_members (bare_place place) (map (λ k. k.now) known.now) (table_view table.now)) }
 {
     'keys: for (key, _member) in table.iter() {
         if !is_among(key.as_str(), known) {
@@ -113,7 +113,7 @@ fn gather<'a>(
     known: &[&str],
     found: &mut Vec<Unread<'a>>,
 ) -> Result<(), AllocError>
-    ensures { IfOk result (λ _. keys_of found.new.items ≡ keys_of found.old.items ++ unread_of (place_of place) (map (λ k. k.now) known.now) (view value.now)) }
+    ensures { IfOk result (λ _. keys_of found.new.items ≡ keys_of found.old.items ++ unread_of (bare_place place) (map (λ k. k.now) known.now) (view value.now)) }
 {
     match value.as_table() {
         Some(table) => gather_keys(table, place, known, found),

@@ -2,7 +2,7 @@
 ghost use Rattle.std.specs.Prelude.{◌≡◌};
 ghost use Rattle.xcp_describe.specs.FaultWords.{most_of_key, name_of_key, place_of_key, range_of_key, type_of_key};
 ghost use Rattle.xcp_describe.specs.Places.{place_text};
-ghost use Rattle.xcp_describe.specs.private.TableKeys.{place_of as told_place};
+ghost use Rattle.xcp_describe.specs.private.TableKeys.{bare_place as told_place};
 
 use crate::place::Place;
 use std::fmt;

@@ -6,10 +6,10 @@ use Rattle.sha2.specs.Sha256.{sha256}
 use Rattle.xcp_memory.specs.Layout.{LayoutValue}
 use Rattle.xcp_flash.specs.declared.fault.FlashError.{FlashError}
 use Rattle.xcp_flash.specs.declared.fault.FlashError.TheVariants as errors
-use Rattle.xcp_flash.specs.FlashFile.{body_of, file_of, head, magic, page_in}
+use Rattle.xcp_flash.specs.FlashFile.{body_of, file_of, head, flash_magic, page_in}
 use Rattle.xcp_flash.specs.References.{AreReferences}
-use Rattle.xcp_flash.specs.Restoring.{HasPages, IsFault}
-use Rattle.xcp_flash.specs.private.Reading.{BeginsWithPages, IsWhole}
+use Rattle.xcp_flash.specs.Restoring.{HasPages, IsFlashFault}
+use Rattle.xcp_flash.specs.private.Reading.{BeginsWithPages, IsWholeRead}
 use Rattle.xcp_flash.proofs.FileLemmas.{append_same, body_behind, body_is, file_is, head_begins, head_length, same_head, sha256_length}
 use Rattle.xcp_flash.proofs.PageLemmas.{same_length, same_pages, sizes}
 
@@ -17,9 +17,11 @@ use Rattle.xcp_flash.proofs.PageLemmas.{same_length, same_pages, sizes}
 pub has_head : (l : LayoutValue) (d file : List ℕ) (h : HasPages l d file) → file ≡ head d ++ (flat_map page_in h.pages ++ h.digest)
 has_head l d file h = h.whole ∙ body_behind d h.pages h.digest
 
-pub has_magic : (l : LayoutValue) (d file : List ℕ) → HasPages l d file → take 6 file ≡ magic
+-- a file with pages begins with the six bytes of magic
+pub has_magic : (l : LayoutValue) (d file : List ℕ) → HasPages l d file → take 6 file ≡ flash_magic
 has_magic l d file h = ap (take 6) (has_head l d file h) ∙ head_begins d _
 
+-- a file with pages has at least the 38 bytes of a head, where the digest has 32
 pub has_room : (l : LayoutValue) (d file : List ℕ) → length d ≡ 32 → HasPages l d file → 38 ≤ length file
 has_room l d file is h =
     let e = ap length (has_head l d file h) in
@@ -27,11 +29,13 @@ has_room l d file is h =
     let b = head_length d in
     omega (arith, e, a, b, is)
 
+-- a head with a digest of 32 bytes is the first 38 bytes, and what stands behind it is the others
 pub at_head : (d more : List ℕ) → length d ≡ 32 → (take 38 (head d ++ more) ≡ head d) × (drop 38 (head d ++ more) ≡ more)
 at_head d more is =
     let long : length (head d) ≡ 38 = head_length d ∙ ap (λ (n : ℕ). 6 + n) is in
     (ap (λ (n : ℕ). take n (head d ++ more)) (sym long) ∙ take-append_seam (head d) more, ap (λ (n : ℕ). drop n (head d ++ more)) (sym long) ∙ drop-append_seam (head d) more)
 
+-- the first 38 bytes of a file with pages are its head, where the digest has 32
 pub names_layout : (l : LayoutValue) (d file : List ℕ) → length d ≡ 32 → HasPages l d file → take 38 file ≡ head d
 names_layout l d file is h = ap (take 38) (has_head l d file h) ∙ (at_head d _ is).0
 
@@ -51,7 +55,7 @@ not_altered l d file pages is sized whole h =
     both.1 ∙ ap (λ (ps : List (List ℕ)). sha256 (body_of d ps)) (sym both.0)
 
 -- a whole file has no fault
-pub no_fault : (l : LayoutValue) (d file : List ℕ) (pages : List (List ℕ)) (e : FlashError) → length d ≡ 32 → AreReferences pages l → file ≡ file_of d pages → IsFault l d file e → ⊥
+pub no_fault : (l : LayoutValue) (d file : List ℕ) (pages : List (List ℕ)) (e : FlashError) → length d ≡ 32 → AreReferences pages l → file ≡ file_of d pages → IsFlashFault l d file e → ⊥
 no_fault l d file pages errors.Head is sized whole fault =
     fault (ap (take 6) (whole ∙ file_is d pages ∙ body_behind d pages (sha256 (body_of d pages))) ∙ head_begins d _)
 no_fault l d file pages errors.Layout is sized whole fault =
@@ -61,7 +65,7 @@ no_fault l d file pages errors.Size is sized whole fault =
 no_fault l d file pages errors.Digest is sized whole fault = fault.1 (not_altered l d file pages is sized whole fault.0)
 
 -- and no file has two
-pub one_fault : (l : LayoutValue) (d file : List ℕ) (e f : FlashError) → length d ≡ 32 → IsFault l d file e → IsFault l d file f → e ≡ f
+pub one_fault : (l : LayoutValue) (d file : List ℕ) (e f : FlashError) → length d ≡ 32 → IsFlashFault l d file e → IsFlashFault l d file f → e ≡ f
 one_fault l d file errors.Head errors.Head is a b = refl
 one_fault l d file errors.Head errors.Layout is a b = absurd (a b.0)
 one_fault l d file errors.Head errors.Size is a b = absurd (a b.0)
@@ -88,7 +92,7 @@ joined d file bytes pages rest named behind whole =
     ∙ sym (body_behind d pages rest)
 
 -- a file that was found whole is the file of its pages
-pub is_file : (l : LayoutValue) (d file bytes : List ℕ) (w : IsWhole l d file bytes) → file ≡ file_of d w.pages
+pub is_file : (l : LayoutValue) (d file bytes : List ℕ) (w : IsWholeRead l d file bytes) → file ≡ file_of d w.pages
 is_file l d file bytes w =
     w.whole ∙ ap (λ (b : List ℕ). head d ++ b) w.found.whole ∙ sym (body_behind d w.pages (sha256 (body_of d w.pages))) ∙ sym (file_is d w.pages)
 

@@ -43,6 +43,7 @@ kept_size v i lawful is there =
     let own = one_size v.transfer.pages i lawful is there in
     either v.store (stored_page s) (reference_page s) n (either s.freeze (xcp_page s) (reference_page s) n (tool_size v.transfer.pages i is there) own) own
 
+-- the pages that are kept have the sizes of the layout's segments
 pub kept_sized : (v : SlaveValue) → IsLayout (layout_of v) → IsPages v.transfer.pages → AreReferences (kept_pages v) (layout_of v)
 kept_sized v lawful is = same_sizes (kept_page v) v.transfer.pages.segments (layout_of v).segments is.count (λ i there. kept_size v i lawful is there)
 
@@ -53,6 +54,7 @@ own_page v (s ∷ segments) none =
     ap (λ (b : Bool). (if b then stored_page s else reference_page s) ∷ map (kept_page v) segments) none
     ∙ ap (λ (ps : List (List ℕ)). reference_page s ∷ ps) (own_page v segments none)
 
+-- where no store is requested, the reference pages are kept
 pub others_kept : (v : SlaveValue) → v.store ≡ false → kept_pages v ≡ references v
 others_kept v none = own_page v v.transfer.pages.segments none
 
@@ -85,6 +87,7 @@ was_stored : (b : Bool) (v w : SlaveValue) (n : ℕ) → v.store ≡ b
 was_stored true v w n asked h = record { asked = asked; is = told_stored (v.connected && nat_le (outbox_size v) (length v.outbox)) v w n _ h }
 was_stored false v w n asked h = let e = h.0 in cc
 
+-- once it is told that so much was stored, the reference pages are those that were kept before
 pub store_leaves : (v w : SlaveValue) (n : ℕ) → IsLayout (layout_of v) → IsPages v.transfer.pages
     → Answers v requests.FinishStore (answers.Stored n) w → references w ≡ kept_pages v
 store_leaves v w n lawful is h =

@@ -20,6 +20,7 @@ with_pages [] segments = segments
 with_pages (page ∷ pages) [] = []
 with_pages (page ∷ pages) (s ∷ segments) = with_page s page ∷ with_pages pages segments
 
+-- the first i segments stay, and those behind them get the pages, in order, where there are as many segments
 pub segments_from : (i : ℕ) (pages : List (List ℕ)) (l : LayoutValue) → i + length pages ≤ length l.segments
     → (with_references_from i pages l).segments ≡ take i l.segments ++ with_pages pages (drop i l.segments)
 segments_from i [] l fits = sym (take-append-drop i l.segments)
@@ -45,6 +46,7 @@ many pages l sized =
     let b = length-map l.segments (λ (s : SegmentValue). length s.bytes) in
     omega (arith, e, a, b)
 
+-- where the pages have the sizes of the segments, the segments of the layout with them are its own with these pages, in order
 pub all_segments : (pages : List (List ℕ)) (l : LayoutValue) → AreReferences pages l → (with_references pages l).segments ≡ with_pages pages l.segments
 all_segments pages l sized = segments_from 0 pages l (let e = many pages l sized in omega (arith, e))
 
@@ -71,6 +73,7 @@ one_size v i lawful is there =
     let of = is.each i there in
     All-get_or (λ (p : List ℕ). length p ≡ length s.bytes) (segment_at v i).pages 0 [] (omega (arith, paged, of.count)) of.sized
 
+-- where each segment's page has its layout segment's size, the pages' sizes are the segments'
 pub same_sizes : (page_of : SegmentPages → List ℕ) (pages : List SegmentPages) (segments : List SegmentValue) → length pages ≡ length segments
     → ((i : ℕ) → i < length pages → length (page_of (get_or pages i no_pages)) ≡ length (get_or segments i no_segment).bytes)
     → map (λ (p : List ℕ). length p) (map page_of pages) ≡ map (λ (s : SegmentValue). length s.bytes) segments

@@ -27,6 +27,7 @@ sizes_more all pages i page there so_far long =
     ∙ ap (λ (n : ℕ). take i all ++ n ∷ []) long
     ∙ sym (take_more all i 0 there)
 
+-- where one more page stands behind the pages, the bytes begin with them and this page
 pub bytes_more : (pages : List (List ℕ)) (page more rest bytes : List ℕ) → bytes ≡ flat_map page_in pages ++ rest → rest ≡ page_in page ++ more → bytes ≡ flat_map page_in (pages ++ page ∷ []) ++ more
 bytes_more pages page more rest bytes whole next =
     let front : flat_map page_in (pages ++ page ∷ []) ≡ flat_map page_in pages ++ page_in page = flat_map-append page_in pages (page ∷ []) ∙ ap (λ (b : List ℕ). flat_map page_in pages ++ b) (append-nil (page_in page)) in
@@ -38,6 +39,7 @@ pub record Left (all : List ℕ) (i : ℕ) (rest more : List ℕ) : Type 0 where
   pub sized : sizes tail ≡ drop i all
   pub whole : rest ≡ flat_map page_in tail ++ more
 
+-- behind pages of the first i sizes, bytes that begin with pages of all sizes go on with pages of the other sizes
 pub left_behind : (done pages : List (List ℕ)) (all : List ℕ) (i : ℕ) (rest more : List ℕ) → sizes done ≡ take i all → sizes pages ≡ all
     → flat_map page_in done ++ rest ≡ flat_map page_in pages ++ more → Left all i rest more
 left_behind [] pages all i rest more front whole h =
@@ -64,6 +66,7 @@ pub record Next (all : List ℕ) (i : ℕ) (tail : List (List ℕ)) (rest more :
   pub sized : sizes others ≡ drop (i + 1) all
   pub whole : rest ≡ page_in page ++ (flat_map page_in others ++ more)
 
+-- bytes that begin with pages of the sizes from i on, i below how many, begin with one of size i, and then the others
 pub next_page : (all : List ℕ) (i : ℕ) (tail : List (List ℕ)) (rest more : List ℕ) → i < length all → sizes tail ≡ drop i all → rest ≡ flat_map page_in tail ++ more → Next all i tail rest more
 next_page all i [] rest more there sized whole = let e = drop-cons all i 0 there in cc
 next_page all i (page ∷ others) rest more there sized whole =

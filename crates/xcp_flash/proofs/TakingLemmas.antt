@@ -43,9 +43,11 @@ taken_more new old now i d x front there is same =
 pub same_more : {A : Type 0} (xs ys : List A) (i : ℕ) (d : A) → i < length xs → i < length ys → get_or xs i d ≡ get_or ys i d → take i xs ≡ take i ys → take (i + 1) xs ≡ take (i + 1) ys
 same_more xs ys i d a b last front = take_more xs i d a ∙ ap (λ z. z ++ get_or xs i d ∷ []) front ∙ ap (λ z. take i ys ++ z ∷ []) last ∙ sym (take_more ys i d b)
 
+-- lists whose first i + 1 elements are the same have the same first i elements
 pub same_front : {A : Type 0} (xs ys : List A) (i : ℕ) → take (i + 1) xs ≡ take (i + 1) ys → take i xs ≡ take i ys
 same_front xs ys i h = sym (take-take i (i + 1) xs (omega arith)) ∙ ap (take i) h ∙ take-take i (i + 1) ys (omega arith)
 
+-- lists whose first i + 1 elements are the same have the same element i
 pub same_last : {A : Type 0} (xs ys : List A) (i : ℕ) (d : A) → take (i + 1) xs ≡ take (i + 1) ys → get_or xs i d ≡ get_or ys i d
 same_last xs ys i d h = sym (get_or-take (i + 1) xs i d (omega arith)) ∙ ap (λ z. get_or z i d) h ∙ get_or-take (i + 1) ys i d (omega arith)
 

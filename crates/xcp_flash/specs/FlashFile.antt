@@ -5,12 +5,12 @@ use Rattle.std.specs.List.{flat_map}
 use Rattle.sha2.specs.Sha256.{sha256}
 
 -- XCPF, and the version, 1, its low byte first
-abbrev pub magic : List ℕ
-magic = 0x58 ∷ 0x43 ∷ 0x50 ∷ 0x46 ∷ 1 ∷ 0 ∷ []
+abbrev pub flash_magic : List ℕ
+flash_magic = 0x58 ∷ 0x43 ∷ 0x50 ∷ 0x46 ∷ 1 ∷ 0 ∷ []
 
 -- the head, where this is the SHA-256 of the layout file's bytes
 unfoldable pub head : List ℕ → List ℕ
-head layout_digest = magic ++ layout_digest
+head layout_digest = flash_magic ++ layout_digest
 
 -- a page: its length, the low byte first, and its bytes
 unfoldable pub page_in : List ℕ → List ℕ

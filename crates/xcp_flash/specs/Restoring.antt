@@ -4,7 +4,7 @@ use Rattle.sha2.specs.Sha256.{sha256}
 use Rattle.xcp_memory.specs.Layout.{LayoutValue}
 use Rattle.xcp_flash.specs.declared.fault.FlashError.{FlashError}
 use Rattle.xcp_flash.specs.declared.fault.FlashError.TheVariants as errors
-use Rattle.xcp_flash.specs.FlashFile.{magic, head, body_of, file_of}
+use Rattle.xcp_flash.specs.FlashFile.{flash_magic, head, body_of, file_of}
 use Rattle.xcp_flash.specs.References.{AreReferences, with_references}
 
 -- The bytes are a head with this digest, pages of the sizes of the layout's segments, and 32 bytes more.
@@ -24,12 +24,12 @@ pub record IsRestored (l : LayoutValue) (layout_digest file : List ℕ) (new : L
 
 -- What is wrong with a file. Head: it doesn't begin with the magic and the version. Layout: it does, but the digest behind them is
 -- another. Size: neither, but it hasn't the pages and 32 bytes. Digest: these aren't the SHA-256 of what stands before.
-abbrev pub IsFault : LayoutValue → List ℕ → List ℕ → FlashError → Type 0
-IsFault l layout_digest file errors.Head = take 6 file ≢ magic
-IsFault l layout_digest file errors.Layout = (take 6 file ≡ magic) × (38 ≤ length file) × (take 38 file ≢ head layout_digest)
-IsFault l layout_digest file errors.Size =
-    (take 6 file ≡ magic) × (38 ≤ length file → take 38 file ≡ head layout_digest) × (HasPages l layout_digest file → ⊥)
-IsFault l layout_digest file errors.Digest =
+abbrev pub IsFlashFault : LayoutValue → List ℕ → List ℕ → FlashError → Type 0
+IsFlashFault l layout_digest file errors.Head = take 6 file ≢ flash_magic
+IsFlashFault l layout_digest file errors.Layout = (take 6 file ≡ flash_magic) × (38 ≤ length file) × (take 38 file ≢ head layout_digest)
+IsFlashFault l layout_digest file errors.Size =
+    (take 6 file ≡ flash_magic) × (38 ≤ length file → take 38 file ≡ head layout_digest) × (HasPages l layout_digest file → ⊥)
+IsFlashFault l layout_digest file errors.Digest =
     (found : HasPages l layout_digest file) × (found.digest ≢ sha256 (body_of layout_digest found.pages))
 
 -- Of a file that may be of either digest: it is restored as one of the first, or as one of the other.
@@ -38,16 +38,16 @@ IsRestoredByEither l layout_digest other file new = IsRestored l layout_digest f
 
 -- of two faults of a file, as one of the first digest and as one of the other, the one that is told: the first, but where it says no more
 -- than that the digest is another
-abbrev pub told_of : FlashError → FlashError → FlashError
-told_of errors.Head second = errors.Head
-told_of errors.Layout second = second
-told_of errors.Size second = errors.Size
-told_of errors.Digest second = errors.Digest
+abbrev pub fault_to_tell : FlashError → FlashError → FlashError
+fault_to_tell errors.Head second = errors.Head
+fault_to_tell errors.Layout second = second
+fault_to_tell errors.Size second = errors.Size
+fault_to_tell errors.Digest second = errors.Digest
 
 -- it is a file of neither, and this is what is wrong with it
 pub record IsFaultOfBoth (l : LayoutValue) (layout_digest other file : List ℕ) (e : FlashError) : Type 0 where
   pub first : FlashError
   pub second : FlashError
-  pub of_first : IsFault l layout_digest file first
-  pub of_other : IsFault l other file second
-  pub told : e ≡ told_of first second
+  pub of_first : IsFlashFault l layout_digest file first
+  pub of_other : IsFlashFault l other file second
+  pub told : e ≡ fault_to_tell first second

@@ -1,7 +1,7 @@
 //! The head of a file, and digests.
 ghost use Rattle.std.specs.Prelude.{◌≡◌, ◌≢◌, ◌≤◌, MatchBool, drop, length, take};
 ghost use Rattle.sha2.specs.Sha256.{sha256};
-ghost use Rattle.xcp_flash.specs.FlashFile.{magic};
+ghost use Rattle.xcp_flash.specs.FlashFile.{flash_magic};
 
 use sha2::{Digest, Sha256};
 
@@ -16,7 +16,7 @@ pub(crate) const DIGEST_BYTES: usize = 32;
 
 /// Whether a file begins with the magic and the version.
 pub(crate) fn has_magic(file: &[u8]) -> bool
-    ensures { MatchBool result (take 6 file.now ≡ magic) (take 6 file.now ≢ magic) }
+    ensures { MatchBool result (take 6 file.now ≡ flash_magic) (take 6 file.now ≢ flash_magic) }
 {
     if file.len() < MAGIC.len() {
         return false;

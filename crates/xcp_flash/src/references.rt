@@ -56,7 +56,7 @@ impl References {
         ensures changed { MatchBool result (self.old ≢ kept_pages slave.now) (self.old ≡ kept_pages slave.now) }
         ensures kept { AreReferences self.new (layout_of slave.now) }
     {
-        slave.audit();
+        slave.known();
         take_each(&mut self.pages, slave)
     }
 

@@ -2,9 +2,9 @@
 ghost use Rattle.std.specs.Prelude.{◌≡◌, ◌↔◌, ◌⊎◌, ℕ, List, Err, IfOk, IfErr, IsOk, OnOk, OnErr};
 ghost use Rattle.xcp_flash.specs.FlashFile.{file_of};
 ghost use Rattle.xcp_flash.specs.References.{AreReferences, with_references};
-ghost use Rattle.xcp_flash.specs.Restoring.{IsFault, IsFaultOfBoth, IsRestored, IsRestoredByEither, told_of};
+ghost use Rattle.xcp_flash.specs.Restoring.{IsFlashFault, IsFaultOfBoth, IsRestored, IsRestoredByEither, fault_to_tell};
 ghost use Rattle.xcp_flash.specs.declared.fault.FlashError.{FlashError};
-ghost use Rattle.xcp_flash.specs.private.Reading.{BeginsWithPages, IsWhole};
+ghost use Rattle.xcp_flash.specs.private.Reading.{BeginsWithPages, IsWholeRead};
 
 use crate::fault::FlashError;
 use crate::head::{DIGEST_BYTES, HEAD_BYTES, digest_of, has_magic, names, same};
@@ -18,7 +18,7 @@ pub fn restore(layout: &mut Layout, layout_digest: &[u8; 32], file: &[u8]) -> Re
     ensures whole { (pages : List (List ℕ)) → AreReferences pages layout.old → file.now ≡ file_of layout_digest.now pages
         → IsOk result × (layout.new ≡ with_references pages layout.old) }
     ensures err { OnErr result (layout.new ≡ layout.old) }
-    ensures fault { (e : FlashError) → (result ≡ Err e) ↔ IsFault layout.old layout_digest.now file.now e }
+    ensures fault { (e : FlashError) → (result ≡ Err e) ↔ IsFlashFault layout.old layout_digest.now file.now e }
 {
     match check(layout, layout_digest, file) {
         Ok(pages) => {
@@ -55,7 +55,7 @@ pub fn restore_either(
 
 /// Of two faults the one that is told.
 fn told_of(first: FlashError, second: FlashError) -> FlashError
-    ensures { result ≡ told_of first second }
+    ensures { result ≡ fault_to_tell first second }
 {
     match first {
         FlashError::Layout => second,
@@ -69,8 +69,8 @@ fn check<'a>(
     layout_digest: &[u8; 32],
     file: &'a [u8],
 ) -> Result<&'a [u8], FlashError>
-    ensures ok { IfOk result (λ bytes. IsWhole layout.now layout_digest.now file.now bytes.now) }
-    ensures err { IfErr result (λ e. IsFault layout.now layout_digest.now file.now e) }
+    ensures ok { IfOk result (λ bytes. IsWholeRead layout.now layout_digest.now file.now bytes.now) }
+    ensures err { IfErr result (λ e. IsFlashFault layout.now layout_digest.now file.now e) }
 {
     if !has_magic(file) {
         return Err(FlashError::Head);

@@ -6,7 +6,7 @@ use Rattle.xcp_framing.specs.declared.serving.Served.{Served}
 use Rattle.xcp_framing.specs.declared.serving.ServeError.{ServeError}
 use Rattle.xcp_framing.specs.declared.serving.ServeError.TheVariants as errors
 use Rattle.xcp_framing.specs.Wire.{len_of, IsBadLength}
-use Rattle.xcp_framing.specs.CountedCalls.{Place}
+use Rattle.xcp_framing.specs.CountedCalls.{StreamPlace}
 use Rattle.xcp_framing.specs.Frames.{frames, rest}
 use Rattle.xcp_framing.specs.FramerInput.{Feeds}
 use Rattle.xcp_framing.specs.Serve.{OnRead, EndsStream}
@@ -69,7 +69,7 @@ pub record Uses {A : Type 0} (Answers : Result (Unit {0}) ServeError → List (L
   pub counted : count ≡ first + length done
 
 -- The bytes read so far, all of whose packets were answered.
-pub record Along {A : Type 0} (Answers : Result (Unit {0}) ServeError → List (List ℕ) → A → A → Type 0) (m : ℕ) (from to : Place) (held : List ℕ) (old now : A) (count : ℕ) : Type 0 where
+pub record Along {A : Type 0} (Answers : Result (Unit {0}) ServeError → List (List ℕ) → A → A → Type 0) (m : ℕ) (from to : StreamPlace) (held : List ℕ) (old now : A) (count : ℕ) : Type 0 where
   pub packets : List (List ℕ)
   pub read : OnRead from to (λ stream. (packets ≡ frames m stream) × (held ≡ rest m stream))
   pub answered : Answers (Ok tt) packets old now
@@ -134,12 +134,12 @@ module _ {A : Type 0} (Answers : Result (Unit {0}) ServeError → List (List ℕ
       rw (outcome_of R e i, all) (before e (x.done ++ p ∷ []) later old new i (more (Err e) x.done (p ∷ []) old now new x.answered g))
 
   -- before the first read nothing is held, and no packet is answered
-  pub along_start : ((a : A) → Answers (Ok tt) [] a a) → (m : ℕ) (i : Place) (old : A) → Along Answers m i i [] old old 0
+  pub along_start : ((a : A) → Answers (Ok tt) [] a a) → (m : ℕ) (i : StreamPlace) (old : A) → Along Answers m i i [] old old 0
   along_start none m i old = record { packets = []; read = read_none m i; answered = none old; counted = refl; good = λ bad. omega (arith, bad.there) }
 
   -- after one more read
   pub along_more : ((r : Result (Unit {0}) ServeError) (ps qs : List (List ℕ)) (a b c : A) → Answers (Ok tt) ps a b → Answers r qs b c → Answers r (ps ++ qs) a c)
-      → (m : ℕ) (i o n : Place) (held left chunk : List ℕ) (old now new : A) {count count' : ℕ}
+      → (m : ℕ) (i o n : StreamPlace) (held left chunk : List ℕ) (old now new : A) {count count' : ℕ}
       → Along Answers m i o held old now count → Consumes o.left n.left chunk → n.read ≡ o.read ++ chunk → Answers (Ok tt) (frames m (held ++ chunk)) now new
       → left ≡ rest m (held ++ chunk) → ¬ IsBadLength m (rest m (held ++ chunk)) → count' ≡ count + length (frames m (held ++ chunk)) → Along Answers m i n left old new count'
   along_more more m i o n held left chunk old now new x k r g e q l =
@@ -153,24 +153,24 @@ module _ {A : Type 0} (Answers : Result (Unit {0}) ServeError → List (List ℕ
       }
 
   -- a read failed
-  pub streams_read : (m : ℕ) (i o n : Place) (held : List ℕ) (old now : A) {count : ℕ} → Along Answers m i o held old now count → Keeps o.left n.left → n.read ≡ o.read → Streams Answers m (Err errors.Read) i n old now
+  pub streams_read : (m : ℕ) (i o n : StreamPlace) (held : List ℕ) (old now : A) {count : ℕ} → Along Answers m i o held old now count → Keeps o.left n.left → n.read ≡ o.read → Streams Answers m (Err errors.Read) i n old now
   streams_read m i o n held old now x k r = record { packets = x.packets; behind = held; read = read_kept i o n (IsOf m x.packets held) x.read k r; answered = x.answered; ends = x.good; counts = tt }
 
   -- all turns were spent
-  pub streams_turns : (m : ℕ) (i o : Place) (held : List ℕ) (old now : A) {count : ℕ} → Along Answers m i o held old now count → Streams Answers m (Err errors.TurnsSpent) i o old now
+  pub streams_turns : (m : ℕ) (i o : StreamPlace) (held : List ℕ) (old now : A) {count : ℕ} → Along Answers m i o held old now count → Streams Answers m (Err errors.TurnsSpent) i o old now
   streams_turns m i o held old now x = record { packets = x.packets; behind = held; read = x.read; answered = x.answered; ends = x.good; counts = tt }
 
   -- the reader ended between two frames
-  pub streams_all : (m : ℕ) (i o n : Place) (held : List ℕ) (old now : A) (served : Served) → Along Answers m i o held old now served.frames → Consumes o.left n.left [] → n.read ≡ o.read ++ [] → held ≡ [] → Streams Answers m (Ok served) i n old now
+  pub streams_all : (m : ℕ) (i o n : StreamPlace) (held : List ℕ) (old now : A) (served : Served) → Along Answers m i o held old now served.frames → Consumes o.left n.left [] → n.read ≡ o.read ++ [] → held ≡ [] → Streams Answers m (Ok served) i n old now
   streams_all m i o n held old now served x k r e = record { packets = x.packets; behind = held; read = read_kept i o n (IsOf m x.packets held) x.read (keeps_end o.left n.left k) (r ∙ append-nil o.read); answered = x.answered; ends = e; counts = x.counted }
 
   -- the reader ended inside a frame
-  pub streams_truncated : (m : ℕ) (i o n : Place) (held : List ℕ) (old now : A) {count : ℕ} → Along Answers m i o held old now count → Consumes o.left n.left [] → n.read ≡ o.read ++ [] → held ≢ [] → Streams Answers m (Err errors.Truncated) i n old now
+  pub streams_truncated : (m : ℕ) (i o n : StreamPlace) (held : List ℕ) (old now : A) {count : ℕ} → Along Answers m i o held old now count → Consumes o.left n.left [] → n.read ≡ o.read ++ [] → held ≢ [] → Streams Answers m (Err errors.Truncated) i n old now
   streams_truncated m i o n held old now x k r e = record { packets = x.packets; behind = held; read = read_kept i o n (IsOf m x.packets held) x.read (keeps_end o.left n.left k) (r ∙ append-nil o.read); answered = x.answered; ends = (e, x.good); counts = tt }
 
   -- a piece ended the call
   pub streams_part : ((r : Result (Unit {0}) ServeError) (ps qs : List (List ℕ)) (a b c : A) → Answers (Ok tt) ps a b → Answers r qs b c → Answers r (ps ++ qs) a c)
-      → (R : Type 0) (m : ℕ) (e : ServeError) (i o n : Place) (held left chunk : List ℕ) (old now new : A) {count : ℕ}
+      → (R : Type 0) (m : ℕ) (e : ServeError) (i o n : StreamPlace) (held left chunk : List ℕ) (old now new : A) {count : ℕ}
       → Along Answers m i o held old now count → Consumes o.left n.left chunk → n.read ≡ o.read ++ chunk → Answers (outcome {R = R} (Err e)) (frames m (held ++ chunk)) now new → EndsPiece {A = R} m (Err e) left (rest m (held ++ chunk)) → Streams Answers m (Err e) i n old new
   streams_part more R m e i o n held left chunk old now new x k r g f =
       let next = frames m (held ++ chunk) in
@@ -185,7 +185,7 @@ module _ {A : Type 0} (Answers : Result (Unit {0}) ServeError → List (List ℕ
 
   -- what was held back behind a piece could not be handed on
   pub streams_held : ((r : Result (Unit {0}) ServeError) (ps qs : List (List ℕ)) (a b c : A) → Answers (Ok tt) ps a b → Answers r qs b c → Answers r (ps ++ qs) a c)
-      → (m : ℕ) (e : ServeError) (i o n : Place) (held chunk : List ℕ) (old now new : A) {count : ℕ}
+      → (m : ℕ) (e : ServeError) (i o n : StreamPlace) (held chunk : List ℕ) (old now new : A) {count : ℕ}
       → IsInterruption e → Along Answers m i o held old now count → Consumes o.left n.left chunk → n.read ≡ o.read ++ chunk → Answers (Err e) (frames m (held ++ chunk)) now new → Streams Answers m (Err e) i n old new
   streams_held more m e i o n held chunk old now new j x k r g =
       let next = frames m (held ++ chunk) in

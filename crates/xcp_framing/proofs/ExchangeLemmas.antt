@@ -12,9 +12,9 @@ use Rattle.xcp_framing.specs.declared.station.StationError.TheVariants as refusa
 use Rattle.std.specs.Io.KnownBytes.{Appends}
 use Rattle.xcp_framing.specs.FrameOutput.{Gathers, Output, Sends}
 use Rattle.xcp_framing.specs.Wire.{wire_from, frame_bytes}
-use Rattle.xcp_framing.specs.Serve.{packet_of, packets_of, GavePacket, AnswersAll, AnswersStart, AnswersPart, AnswersSoFar, most_drains, refused_with}
+use Rattle.xcp_framing.specs.Serve.{packets_in_answer, packets_in_answers, GavePacket, AnswersAll, AnswersStart, AnswersPart, AnswersSoFar, most_drains, refused_with}
 use Rattle.xcp_framing.specs.ServeParts.{IsInterruption}
-use Rattle.xcp_framing.specs.private.GrowingOutput.{Grows, DrainsSoFar, EndsPiece, fine}
+use Rattle.xcp_framing.specs.private.GrowingOutput.{OutputGrows, DrainsSoFar, EndsPiece, fine}
 use Rattle.xcp_framing.specs.Prefix.{AppendsFront}
 use Rattle.xcp_framing.proofs.FrameOutputLemmas.{gathers_more, gathers_none, sends_flushed, sends_more, sends_none, sends_unflushed}
 
@@ -27,8 +27,8 @@ wire_from-append k (p ∷ ps) qs =
     ∙ ap (λ (n : ℕ). (frame_bytes k p ++ wire_from (k + 1) ps) ++ wire_from n qs) (omega arith)
 
 -- the packets of exchanges behind exchanges are those of the first, and then those of the others
-pub packets_of-append : (xs ys : List Exchange) → packets_of (xs ++ ys) ≡ packets_of xs ++ packets_of ys
-packets_of-append xs ys = flat_map-append (λ (x : Exchange). packet_of x.answer) xs ys
+pub packets_of-append : (xs ys : List Exchange) → packets_in_answers (xs ++ ys) ≡ packets_in_answers xs ++ packets_in_answers ys
+packets_of-append xs ys = flat_map-append (λ (x : Exchange). packets_in_answer x.answer) xs ys
 
 -- a fact that holds where a call succeeded gives there what follows from it
 pub on_ok : {A P Q : Type 0} (r : Result A ServeError) → OnOk r P → (P → Q) → OnOk r Q
@@ -45,7 +45,7 @@ pub cons≢nil : {A : Type 0} {x : A} {xs : List A} → ◌≡◌ {A = List A} (
 cons≢nil h = cc
 
 -- no exchange yet
-pub grows_none : (Fact : List Exchange → Type 0) (old : List Exchange) (a : Output) (from : ℕ) → Fact [] → Grows fine Fact old old a a from from
+pub grows_none : (Fact : List Exchange → Type 0) (old : List Exchange) (a : Output) (from : ℕ) → Fact [] → OutputGrows fine Fact old old a a from from
 grows_none Fact old a from h = record {
   exchanges = [];
   grown = sym (append-nil old);
@@ -56,25 +56,25 @@ grows_none Fact old a from h = record {
 
 -- exchanges behind exchanges
 pub grows_more : {A : Type 0} (r : Result A ServeError) {F G H : List Exchange → Type 0} {old mid new : List Exchange} {a b c : Output} {from at to : ℕ}
-    → Grows fine F old mid a b from at → Grows r G mid new b c at to → ((xs ys : List Exchange) → F xs → G ys → H (xs ++ ys)) → Grows r H old new a c from to
+    → OutputGrows fine F old mid a b from at → OutputGrows r G mid new b c at to → ((xs ys : List Exchange) → F xs → G ys → H (xs ++ ys)) → OutputGrows r H old new a c from to
 grows_more r {old = old} {a = a} {b = b} {c = c} {from = from} {at = at} {to = to} x y join =
     let xs = x.exchanges in
     let ys = y.exchanges in
-    let counted : at ≡ from + length (packets_of xs) = x.counts in
-    let text : wire_from from (packets_of (xs ++ ys)) ≡ wire_from from (packets_of xs) ++ wire_from at (packets_of ys) =
-    ap (wire_from from) (packets_of-append xs ys) ∙ wire_from-append from (packets_of xs) (packets_of ys) ∙ ap (λ (n : ℕ). wire_from from (packets_of xs) ++ wire_from n (packets_of ys)) (sym counted) in
+    let counted : at ≡ from + length (packets_in_answers xs) = x.counts in
+    let text : wire_from from (packets_in_answers (xs ++ ys)) ≡ wire_from from (packets_in_answers xs) ++ wire_from at (packets_in_answers ys) =
+    ap (wire_from from) (packets_of-append xs ys) ∙ wire_from-append from (packets_in_answers xs) (packets_in_answers ys) ∙ ap (λ (n : ℕ). wire_from from (packets_in_answers xs) ++ wire_from n (packets_in_answers ys)) (sym counted) in
     record {
       exchanges = xs ++ ys;
       grown = y.grown ∙ ap (λ (z : List Exchange). z ++ ys) x.grown ∙ append_assoc old xs ys;
       fact = join xs ys x.fact y.fact;
-      sends = rw text (sends_more r a b c (wire_from from (packets_of xs)) (wire_from at (packets_of ys)) x.sends y.sends);
-      counts = on_ok r y.counts (λ (h : to ≡ at + length (packets_of ys)). omega (arith, h, counted, ap (λ (ps : List (List ℕ)). length ps) (packets_of-append xs ys), length-append (packets_of xs) (packets_of ys)));
+      sends = rw text (sends_more r a b c (wire_from from (packets_in_answers xs)) (wire_from at (packets_in_answers ys)) x.sends y.sends);
+      counts = on_ok r y.counts (λ (h : to ≡ at + length (packets_in_answers ys)). omega (arith, h, counted, ap (λ (ps : List (List ℕ)). length ps) (packets_of-append xs ys), length-append (packets_in_answers xs) (packets_in_answers ys)));
     }
 
 -- one exchange with no packet
-pub grows_unsent : {old new : List Exchange} (x : Exchange) (a : Output) (from : ℕ) → new ≡ old ++ x ∷ [] → packet_of x.answer ≡ [] → Grows fine (λ xs. xs ≡ x ∷ []) old new a a from from
+pub grows_unsent : {old new : List Exchange} (x : Exchange) (a : Output) (from : ℕ) → new ≡ old ++ x ∷ [] → packets_in_answer x.answer ≡ [] → OutputGrows fine (λ xs. xs ≡ x ∷ []) old new a a from from
 grows_unsent x a from h e =
-    let none : packets_of (x ∷ []) ≡ [] = rw e refl in
+    let none : packets_in_answers (x ∷ []) ≡ [] = rw e refl in
     record {
       exchanges = x ∷ [];
       grown = h;
@@ -85,19 +85,19 @@ grows_unsent x a from h e =
 
 -- one exchange, and its packets sent
 pub grows_sent : {A : Type 0} (r : Result A ServeError) {old new : List Exchange} (x : Exchange) {a b : Output} {from to : ℕ}
-    → new ≡ old ++ x ∷ [] → Sends r a b (wire_from from (packet_of x.answer)) → OnOk r (to ≡ from + length (packet_of x.answer)) → Grows r (λ xs. xs ≡ x ∷ []) old new a b from to
+    → new ≡ old ++ x ∷ [] → Sends r a b (wire_from from (packets_in_answer x.answer)) → OnOk r (to ≡ from + length (packets_in_answer x.answer)) → OutputGrows r (λ xs. xs ≡ x ∷ []) old new a b from to
 grows_sent r x {from = from} {to = to} h w k =
-    let all : packets_of (x ∷ []) ≡ packet_of x.answer = append-nil (packet_of x.answer) in
+    let all : packets_in_answers (x ∷ []) ≡ packets_in_answer x.answer = append-nil (packets_in_answer x.answer) in
     record {
       exchanges = x ∷ [];
       grown = h;
       fact = refl;
       sends = rw all w;
-      counts = on_ok r k (λ (j : to ≡ from + length (packet_of x.answer)). rw all j);
+      counts = on_ok r k (λ (j : to ≡ from + length (packets_in_answer x.answer)). rw all j);
     }
 
 -- a request that the station refused
-pub grows_refused : {A : Type 0} (r : Result A ServeError) {Fact : List Exchange → Type 0} {old new : List Exchange} (a : Output) {from : ℕ} → Fact [] → new ≡ old → Grows r Fact old new a a from from
+pub grows_refused : {A : Type 0} (r : Result A ServeError) {Fact : List Exchange → Type 0} {old new : List Exchange} (a : Output) {from : ℕ} → Fact [] → new ≡ old → OutputGrows r Fact old new a a from from
 grows_refused r {old = old} a {from} f h = record {
   exchanges = [];
   grown = h ∙ sym (append-nil old);
@@ -112,7 +112,7 @@ passed_on (Ok v) e h = absurd h
 passed_on (Err x) e h = ap Err h
 
 -- one more Drain that gave a packet
-pub drains_one : (k : ℕ) (x : Exchange) → x.request ≡ requests.Drain → packet_of x.answer ≢ []
+pub drains_one : (k : ℕ) (x : Exchange) → x.request ≡ requests.Drain → packets_in_answer x.answer ≢ []
     → (xs ys : List Exchange) → All GavePacket xs × (length xs ≡ k) → ys ≡ x ∷ [] → All GavePacket (xs ++ ys) × (length (xs ++ ys) ≡ k + 1)
 drains_one k x q gave xs ys h e =
     let one : GavePacket x = record { drain = q; gave = gave } in
@@ -134,12 +134,14 @@ pub record SentPart (a b : Output) (from to : ℕ) (packets left : List (List �
   pub sends : Gathers a b (wire_from from done)
   pub counts : to ≡ from + length done
 
+-- nothing is sent yet, and all packets are left
 pub part_begun : (a : Output) (from : ℕ) (packets : List (List ℕ)) → SentPart a a from from packets packets
 part_begun a from packets = record { done = []; joined = refl; sends = gathers_none a; counts = omega arith }
 
 text_of_part : (from at : ℕ) (done : List (List ℕ)) (p : List ℕ) → at ≡ from + length done → wire_from from (done ++ p ∷ []) ≡ wire_from from done ++ wire_from at (p ∷ [])
 text_of_part from at done p e = wire_from-append from done (p ∷ []) ∙ ap (λ (n : ℕ). wire_from from done ++ wire_from n (p ∷ [])) (sym e)
 
+-- where the first packet that is left is sent with its number, those behind it are left, and one more is counted
 pub part_more_sent : {a b c : Output} {from at to : ℕ} {packets left : List (List ℕ)} (p : List ℕ) (rest : List (List ℕ)) → SentPart a b from at packets left → left ≡ p ∷ rest → Gathers b c (wire_from at (p ∷ [])) → to ≡ at + 1 → SentPart a c from to packets rest
 part_more_sent {a = a} {b = b} {c = c} {from = from} {at = at} p rest k e w n = record {
   done = k.done ++ p ∷ [];
@@ -155,10 +157,12 @@ part_last r {a = a} {b = b} c {from = from} {at = at} p k e w =
     let all = k.joined ∙ ap (λ (z : List (List ℕ)). k.done ++ z) e in
     rw (all, text) (sends_more r a b c (wire_from from k.done) (wire_from at (p ∷ [])) k.sends w)
 
+-- the number behind the next packet and how many are left behind it add up to the first number and how many packets there are
 pub part_counted : {from at to : ℕ} {a b : Output} {packets left : List (List ℕ)} (p : List ℕ) (rest : List (List ℕ)) → SentPart a b from at packets left → left ≡ p ∷ rest → to ≡ at + 1 → to + length rest ≡ from + length packets
 part_counted p rest k e n =
     omega (arith, n, k.counts, ap (λ (z : List (List ℕ)). length z) (k.joined ∙ ap (λ (z : List (List ℕ)). k.done ++ z) e), length-append k.done (p ∷ rest))
 
+-- while a packet is left, the number behind it is at most the first number and how many packets there are, added up
 pub part_room : {from at : ℕ} {a b : Output} {packets left : List (List ℕ)} (p : List ℕ) (rest : List (List ℕ)) → SentPart a b from at packets left → left ≡ p ∷ rest → at + 1 ≤ from + length packets
 part_room p rest k e =
     omega (arith, k.counts, ap (λ (z : List (List ℕ)). length z) (k.joined ∙ ap (λ (z : List (List ℕ)). k.done ++ z) e), length-append k.done (p ∷ rest))
@@ -266,7 +270,7 @@ part_of (Err errors.TurnsSpent) packets xs h = part_all packets xs h
 
 -- what is held is written
 pub grows_flushed : {A : Type 0} (r : Result A ServeError) {Fact : List Exchange → Type 0} {old new : List Exchange} {a b : Output} (c : Output) {from to : ℕ}
-    → Grows r Fact old new a b from to → (r ≡ Err errors.Write → b.held ≡ []) → Appends b.contents c.contents b.held → c.held ≡ [] → Grows r Fact old new a c from to
+    → OutputGrows r Fact old new a b from to → (r ≡ Err errors.Write → b.held ≡ []) → Appends b.contents c.contents b.held → c.held ≡ [] → OutputGrows r Fact old new a c from to
 grows_flushed r {a = a} {b = b} c x n h e = record {
   exchanges = x.exchanges;
   grown = x.grown;
@@ -277,8 +281,8 @@ grows_flushed r {a = a} {b = b} c x n h e = record {
 
 -- of what is held a front is written, and the call ends
 pub grows_unflushed : {A : Type 0} (r : Result A ServeError) {packets : List (List ℕ)} {old new : List Exchange} {a b : Output} (c : Output) {from to : ℕ}
-    → Grows r (AnswersSoFar r packets) old new a b from to → (r ≡ Err errors.Write → b.held ≡ []) → AppendsFront b.contents c.contents b.held
-    → Grows {A = A} (Err errors.Write) (AnswersPart packets) old new a c from to
+    → OutputGrows r (AnswersSoFar r packets) old new a b from to → (r ≡ Err errors.Write → b.held ≡ []) → AppendsFront b.contents c.contents b.held
+    → OutputGrows {A = A} (Err errors.Write) (AnswersPart packets) old new a c from to
 grows_unflushed r {packets = packets} {a = a} {b = b} c x n h = record {
   exchanges = x.exchanges;
   grown = x.grown;
@@ -347,9 +351,11 @@ pub record PutPart (before after : List (List ℕ)) (count : ℕ) (packets left 
   pub put : after ≡ before ++ done
   pub counts : count ≡ length done
 
+-- nothing is put yet, and all packets are left
 pub put_begun : (a : List (List ℕ)) (packets : List (List ℕ)) → PutPart a a 0 packets packets
 put_begun a packets = record { done = []; joined = refl; put = sym (append-nil a); counts = refl }
 
+-- where the first packet that is left is put, those behind it are left, and one more is counted
 pub put_more : {a b c : List (List ℕ)} {n : ℕ} {packets left : List (List ℕ)} (p : List ℕ) (rest : List (List ℕ)) → PutPart a b n packets left → left ≡ p ∷ rest → c ≡ b ++ p ∷ [] → PutPart a c (n + 1) packets rest
 put_more {a = a} p rest k e w = record {
   done = k.done ++ p ∷ [];
@@ -364,6 +370,7 @@ put_all {a = a} {packets = packets} k =
     let all : packets ≡ k.done = k.joined ∙ append-nil k.done in
     (k.put ∙ ap (λ (z : List (List ℕ)). a ++ z) (sym all), k.counts ∙ ap (λ (z : List (List ℕ)). length z) (sym all))
 
+-- while a packet is left, fewer were put than the block has
 pub put_room : {a b : List (List ℕ)} {n : ℕ} {packets left : List (List ℕ)} (p : List ℕ) (rest : List (List ℕ)) → PutPart a b n packets left → left ≡ p ∷ rest → n + 1 ≤ length packets
 put_room p rest k e =
     omega (arith, k.counts, ap (λ (z : List (List ℕ)). length z) (k.joined ∙ ap (λ (z : List (List ℕ)). k.done ++ z) e), length-append k.done (p ∷ rest))

@@ -6,7 +6,7 @@ use Rattle.xcp_framing.specs.declared.serving.ServeError.{ServeError}
 use Rattle.xcp_framing.specs.declared.serving.ServeError.TheVariants as errors
 use Rattle.xcp_framing.specs.Prefix.{AppendsFront}
 use Rattle.xcp_framing.specs.FrameOutput.{Output, Gathers, Sends}
-use Rattle.xcp_framing.specs.Serve.{Writes}
+use Rattle.xcp_framing.specs.Serve.{WritesText}
 use Rattle.xcp_framing.proofs.KnownBytesLemmas.{appends_none, appends_more, appends_kept, keeps_none}
 
 -- nothing was sent
@@ -127,7 +127,7 @@ all_written a b t x e f =
     subst (λ (z : List ℕ). Appends a.contents b.contents z) whole x.grown
 
 -- a failed write wrote a front of what was sent, any other error all of it, with nothing held before and after
-pub writes_sent : (A B : Type 0) (e : ServeError) (a b : Output) (t : List ℕ) → Sends {A = A} (Err e) a b t → a.held ≡ [] → b.held ≡ [] → Writes {A = B} (Err e) a.contents b.contents t
+pub writes_sent : (A B : Type 0) (e : ServeError) (a b : Output) (t : List ℕ) → Sends {A = A} (Err e) a b t → a.held ≡ [] → b.held ≡ [] → WritesText {A = B} (Err e) a.contents b.contents t
 writes_sent A B errors.Write a b t h e f = subst (λ (z : List ℕ). AppendsFront a.contents b.contents (z ++ t)) e h
 writes_sent A B errors.Read a b t h e f = all_written a b t h e f
 writes_sent A B (errors.BadLength n) a b t h e f = all_written a b t h e f

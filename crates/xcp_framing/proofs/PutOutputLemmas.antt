@@ -7,11 +7,11 @@ use Rattle.xcp_framing.specs.declared.serving.ServeError.TheVariants as errors
 use Rattle.xcp_framing.specs.ServeBy.{IsHandedBack}
 use Rattle.xcp_framing.specs.ServeParts.{IsInterruption}
 use Rattle.xcp_framing.specs.ServeRefusal.{OnRefusal}
-use Rattle.xcp_framing.specs.private.PutOutput.{IsUnput, Moves, MovesSoFar}
+use Rattle.xcp_framing.specs.private.PutOutput.{IsLeftUnput, Moves, MovesSoFar}
 use Rattle.xcp_framing.proofs.ExchangeLemmas.{cons≢nil}
 
 -- where packets were left unput, a batch was handed back, or had no memory
-pub unput_is : (e : ServeError) → IsUnput e → (e ≡ errors.Write) ⊎ (e ≡ errors.NoRoom)
+pub unput_is : (e : ServeError) → IsLeftUnput e → (e ≡ errors.Write) ⊎ (e ≡ errors.NoRoom)
 unput_is errors.Write u = inl refl
 unput_is errors.Memory u = absurd u
 unput_is errors.JournalFull u = absurd u
@@ -22,22 +22,23 @@ unput_is errors.Truncated u = absurd u
 unput_is errors.TurnsSpent u = absurd u
 
 -- then a front of the packets was put, and nothing is held
-pub moves_lost : (A : Type 0) (e : ServeError) (a b h k m : List (List ℕ)) → IsUnput e → IsHandedBack (h ++ m) a b → k ≡ [] → MovesSoFar {A = A} (Err e) a h b k m
+pub moves_lost : (A : Type 0) (e : ServeError) (a b h k m : List (List ℕ)) → IsLeftUnput e → IsHandedBack (h ++ m) a b → k ≡ [] → MovesSoFar {A = A} (Err e) a h b k m
 moves_lost A e a b h k m u x none = ⊎_elim (λ w. rw w (x, none)) (λ w. rw w (x, none)) (unput_is e u)
 
 -- and the same, whatever else the call gives
-pub moves_as : (A B : Type 0) (e : ServeError) (a b h k m : List (List ℕ)) → IsUnput e → MovesSoFar {A = A} (Err e) a h b k m → MovesSoFar {A = B} (Err e) a h b k m
+pub moves_as : (A B : Type 0) (e : ServeError) (a b h k m : List (List ℕ)) → IsLeftUnput e → MovesSoFar {A = A} (Err e) a h b k m → MovesSoFar {A = B} (Err e) a h b k m
 moves_as A B e a b h k m u x = ⊎_elim (λ w. let y = rw w at x in rw w y) (λ w. let y = rw w at x in rw w y) (unput_is e u)
 
 -- and no request was refused
-pub none_refused : (A : Type 0) (e : ServeError) (F : StationError → Type 0) → IsUnput e → OnRefusal {A = A} (Err e) F
+pub none_refused : (A : Type 0) (e : ServeError) (F : StationError → Type 0) → IsLeftUnput e → OnRefusal {A = A} (Err e) F
 none_refused A e F u = ⊎_elim (λ w. rw w tt) (λ w. rw w tt) (unput_is e u)
 
 -- it is an interruption
-pub unput_stops : (e : ServeError) → IsUnput e → IsInterruption e
+pub unput_stops : (e : ServeError) → IsLeftUnput e → IsInterruption e
 unput_stops e u = ⊎_elim (λ w. rw w tt) (λ w. rw w tt) (unput_is e u)
 
-pub unput_stops_any : {A : Type 0} (r : Result A ServeError) → IfErr r IsUnput → IfErr r IsInterruption
+-- where the error of a result left packets unput, it is an interruption
+pub unput_stops_any : {A : Type 0} (r : Result A ServeError) → IfErr r IsLeftUnput → IfErr r IsInterruption
 unput_stops_any (Ok v) u = tt
 unput_stops_any (Err e) u = unput_stops e u
 
@@ -61,6 +62,7 @@ lost_in {a = a} h ps e n = record { front = []; back = h ++ ps; joined = refl; s
 joined_more : (h m n k moved : List (List ℕ)) → moved ++ k ≡ h ++ m → h ++ (m ++ n) ≡ moved ++ (k ++ n)
 joined_more h m n k moved e = sym (append_assoc h m n) ∙ (ap (λ (z : List (List ℕ)). z ++ n) (sym e) ∙ append_assoc moved k n)
 
+-- packets that move, and then more, move as all of them, the ones behind the others
 pub both_move : {a b c h k l : List (List ℕ)} (m n : List (List ℕ)) → Moves a h b k m → Moves b k c l n → Moves a h c l (m ++ n)
 both_move {a = a} {h = h} {k = k} {l = l} m n x y = record {
   moved = x.moved ++ y.moved;
@@ -117,7 +119,7 @@ pub back_on : {a b c h k : List (List ℕ)} (m : List (List ℕ)) → Moves a h 
 back_on {k = k} m x e n = record { front = x.moved; back = k; joined = sym x.rest; some = n; put = e ∙ x.grown }
 
 -- the whole batch was
-pub all_back : (A : Type 0) (e : ServeError) {a b h k : List (List ℕ)} → IsUnput e → b ≡ a → h ≢ [] → k ≡ [] → MovesSoFar {A = A} (Err e) a h b k []
+pub all_back : (A : Type 0) (e : ServeError) {a b h k : List (List ℕ)} → IsLeftUnput e → b ≡ a → h ≢ [] → k ≡ [] → MovesSoFar {A = A} (Err e) a h b k []
 all_back A e {a = a} {h = h} u same some none = moves_lost A e _ _ _ _ _ u (back_on [] (moves_none a h) same some) none
 
 -- whatever ended the call, the batch was handed back behind it

@@ -4,17 +4,17 @@ use Rattle.std.proofs.lemmas.List.{append-nil, map-append}
 use Rattle.xcp_slave.specs.declared.Exchange.{Exchange}
 use Rattle.xcp_slave.specs.declared.Request.{Request}
 use Rattle.xcp_slave.specs.Run.{requests_of}
-use Rattle.xcp_framing.specs.CountedCalls.{Place}
+use Rattle.xcp_framing.specs.CountedCalls.{StreamPlace}
 use Rattle.xcp_framing.specs.declared.station.StationError.{StationError}
 use Rattle.xcp_framing.specs.declared.station.StationError.TheVariants as refusals
 use Rattle.xcp_framing.specs.declared.serving.Served.{Served}
 use Rattle.xcp_framing.specs.declared.serving.ServeError.{ServeError}
 use Rattle.xcp_framing.specs.declared.serving.ServeError.TheVariants as errors
-use Rattle.xcp_framing.specs.Serve.{packet_of, packets_of, Counts, refused_with}
-use Rattle.xcp_framing.specs.ServeRefusal.{OnRefusal, Refused}
+use Rattle.xcp_framing.specs.Serve.{packets_in_answer, packets_in_answers, Counts, refused_with}
+use Rattle.xcp_framing.specs.ServeRefusal.{OnRefusal, StationRefused}
 use Rattle.xcp_framing.specs.ServeBy.{command, commands, PutsSoFar, ServesBy, CommandNext}
-use Rattle.xcp_framing.specs.private.AnsweredStream.{Stand, Streams, outcome}
-use Rattle.xcp_framing.specs.private.PutOutput.{IsUnput, Moves, MovesSoFar}
+use Rattle.xcp_framing.specs.private.AnsweredStream.{AnswerStand, Streams, outcome}
+use Rattle.xcp_framing.specs.private.PutOutput.{IsLeftUnput, Moves, MovesSoFar}
 use Rattle.xcp_framing.specs.private.AnsweredByPut.{NextCommand, AsksFirst, AsksSoFar, AnswersByPut, HandsBatchOn}
 use Rattle.xcp_framing.proofs.ExchangeLemmas.{packets_of-append}
 use Rattle.xcp_framing.proofs.PutOutputLemmas.{all_put, lost_in, moves_back, moves_in, moves_lost, moves_more, moves_none, moves_put, none_refused}
@@ -69,8 +69,8 @@ next_before ps qs xs q k = record {
   next = k.next;
 }
 
-counted_more : {A : Type 0} (r : Result A ServeError) (xs ys : List Exchange) (from at to : ℕ) → at ≡ from + length (packets_of xs) → OnOk r (to ≡ at + length (packets_of ys)) → OnOk r (to ≡ from + length (packets_of (xs ++ ys)))
-counted_more (Ok v) xs ys from at to h k = omega (arith, h, k, ap (λ (z : List (List ℕ)). length z) (packets_of-append xs ys), length-append (packets_of xs) (packets_of ys))
+counted_more : {A : Type 0} (r : Result A ServeError) (xs ys : List Exchange) (from at to : ℕ) → at ≡ from + length (packets_in_answers xs) → OnOk r (to ≡ at + length (packets_in_answers ys)) → OnOk r (to ≡ from + length (packets_in_answers (xs ++ ys)))
+counted_more (Ok v) xs ys from at to h k = omega (arith, h, k, ap (λ (z : List (List ℕ)). length z) (packets_of-append xs ys), length-append (packets_in_answers xs) (packets_in_answers ys))
 counted_more (Err e) xs ys from at to h k = tt
 
 -- no packet moves where a command is refused
@@ -80,7 +80,7 @@ none_moves refusals.JournalFull {h = h} e f = moves_in [] e (f ∙ sym (append-n
 
 module _ {S K O : Type 0} (exchanges_of : S → List Exchange) (refuses : S → Request → StationError → Type 0) (same_station : S → S → Type 0) (put_of : O → List (List ℕ)) (same_out : O → O → Type 0) (sent_of : K → ℕ) (held_of : K → List (List ℕ)) where
   -- no packet
-  pub puts_none : ((x : S) → same_station x x) → ((x : O) → same_out x x) → (a : Stand S K O) → AnswersByPut exchanges_of refuses same_station put_of same_out sent_of held_of (Ok tt) [] a a
+  pub puts_none : ((x : S) → same_station x x) → ((x : O) → same_out x x) → (a : AnswerStand S K O) → AnswersByPut exchanges_of refuses same_station put_of same_out sent_of held_of (Ok tt) [] a a
   puts_none station_refl same_refl a = record {
     exchanges = [];
     grown = sym (append-nil (exchanges_of a.station));
@@ -93,13 +93,13 @@ module _ {S K O : Type 0} (exchanges_of : S → List Exchange) (refuses : S → 
   }
 
   -- packets, and then more
-  pub puts_behind : ((x y z : S) → same_station x y → same_station y z → same_station x z) → ((x y z : O) → same_out x y → same_out y z → same_out x z) → (r : Result (Unit {0}) ServeError) (ps qs : List (List ℕ)) (a b c : Stand S K O)
+  pub puts_behind : ((x y z : S) → same_station x y → same_station y z → same_station x z) → ((x y z : O) → same_out x y → same_out y z → same_out x z) → (r : Result (Unit {0}) ServeError) (ps qs : List (List ℕ)) (a b c : AnswerStand S K O)
       → AnswersByPut exchanges_of refuses same_station put_of same_out sent_of held_of (Ok tt) ps a b → AnswersByPut exchanges_of refuses same_station put_of same_out sent_of held_of r qs b c → AnswersByPut exchanges_of refuses same_station put_of same_out sent_of held_of r (ps ++ qs) a c
   puts_behind station_trans same_trans r ps qs a b c x y = record {
     exchanges = x.exchanges ++ y.exchanges;
     grown = y.grown ∙ (ap (λ (z : List Exchange). z ++ y.exchanges) x.grown ∙ append_assoc (exchanges_of a.station) x.exchanges y.exchanges);
     asks = asks_more r ps qs x.exchanges y.exchanges x.asks y.asks;
-    moves = rw (packets_of-append x.exchanges y.exchanges) (moves_more r (put_of a.out) (put_of b.out) (put_of c.out) (held_of a.state) (held_of b.state) (held_of c.state) (packets_of x.exchanges) (packets_of y.exchanges) x.moves y.moves);
+    moves = rw (packets_of-append x.exchanges y.exchanges) (moves_more r (put_of a.out) (put_of b.out) (put_of c.out) (held_of a.state) (held_of b.state) (held_of c.state) (packets_in_answers x.exchanges) (packets_in_answers y.exchanges) x.moves y.moves);
     stays = station_trans a.station b.station c.station x.stays y.stays;
     kept = same_trans a.out b.out c.out x.kept y.kept;
     counted = counted_more r x.exchanges y.exchanges (sent_of a.state) (sent_of b.state) (sent_of c.state) x.counted y.counted;
@@ -107,7 +107,7 @@ module _ {S K O : Type 0} (exchanges_of : S → List Exchange) (refuses : S → 
   }
 
   -- an interruption leaves the packets that come later
-  pub puts_before : (e : ServeError) (ps qs : List (List ℕ)) (a b : Stand S K O)
+  pub puts_before : (e : ServeError) (ps qs : List (List ℕ)) (a b : AnswerStand S K O)
       → AnswersByPut exchanges_of refuses same_station put_of same_out sent_of held_of (Err e) ps a b → AnswersByPut exchanges_of refuses same_station put_of same_out sent_of held_of (Err e) (ps ++ qs) a b
   puts_before e ps qs a b x = record {
     exchanges = x.exchanges;
@@ -121,14 +121,14 @@ module _ {S K O : Type 0} (exchanges_of : S → List Exchange) (refuses : S → 
   }
 
   -- what was held was put
-  pub puts_handed : ((x y z : O) → same_out x y → same_out y z → same_out x z) → (r : Result (Unit {0}) ServeError) (ps : List (List ℕ)) (a b : Stand S K O) (k : K) (o : O)
+  pub puts_handed : ((x y z : O) → same_out x y → same_out y z → same_out x z) → (r : Result (Unit {0}) ServeError) (ps : List (List ℕ)) (a b : AnswerStand S K O) (k : K) (o : O)
       → AnswersByPut exchanges_of refuses same_station put_of same_out sent_of held_of r ps a b → HandsBatchOn put_of same_out sent_of held_of (Ok tt) b.state b.out k o
       → AnswersByPut exchanges_of refuses same_station put_of same_out sent_of held_of r ps a (record { station = b.station; state = k; out = o })
   puts_handed same_trans r ps a b k o x h = record {
     exchanges = x.exchanges;
     grown = x.grown;
     asks = x.asks;
-    moves = moves_put r (put_of a.out) (put_of b.out) (put_of o) (held_of a.state) (held_of b.state) (held_of k) (packets_of x.exchanges) x.moves h.ok h.held;
+    moves = moves_put r (put_of a.out) (put_of b.out) (put_of o) (held_of a.state) (held_of b.state) (held_of k) (packets_in_answers x.exchanges) x.moves h.ok h.held;
     stays = x.stays;
     kept = same_trans a.out b.out o x.kept h.kept;
     counted = rw (h.sent) x.counted;
@@ -136,14 +136,14 @@ module _ {S K O : Type 0} (exchanges_of : S → List Exchange) (refuses : S → 
   }
 
   -- what was held was handed back, or had no memory
-  pub puts_held : ((x y z : O) → same_out x y → same_out y z → same_out x z) → (r : Result (Unit {0}) ServeError) (e : ServeError) (ps : List (List ℕ)) (a b : Stand S K O) (k : K) (o : O)
+  pub puts_held : ((x y z : O) → same_out x y → same_out y z → same_out x z) → (r : Result (Unit {0}) ServeError) (e : ServeError) (ps : List (List ℕ)) (a b : AnswerStand S K O) (k : K) (o : O)
       → AnswersByPut exchanges_of refuses same_station put_of same_out sent_of held_of r ps a b → HandsBatchOn put_of same_out sent_of held_of (Err e) b.state b.out k o
       → AnswersByPut exchanges_of refuses same_station put_of same_out sent_of held_of (Err e) ps a (record { station = b.station; state = k; out = o })
   puts_held same_trans r e ps a b k o x h = record {
     exchanges = x.exchanges;
     grown = x.grown;
     asks = asks_first r ps x.exchanges x.asks;
-    moves = moves_lost (Unit {0}) e _ _ _ _ _ h.err (moves_back r (put_of a.out) (put_of b.out) (put_of o) (held_of a.state) (held_of b.state) (packets_of x.exchanges) x.moves h.back.0 h.back.1) h.held;
+    moves = moves_lost (Unit {0}) e _ _ _ _ _ h.err (moves_back r (put_of a.out) (put_of b.out) (put_of o) (held_of a.state) (held_of b.state) (packets_in_answers x.exchanges) x.moves h.back.0 h.back.1) h.held;
     stays = x.stays;
     kept = same_trans a.out b.out o x.kept h.kept;
     counted = tt;
@@ -151,7 +151,7 @@ module _ {S K O : Type 0} (exchanges_of : S → List Exchange) (refuses : S → 
   }
 
   -- room was made for an answer
-  pub room_made : ((x : S) → same_station x x) → (a b : Stand S K O) → b.station ≡ a.station → Moves (put_of a.out) (held_of a.state) (put_of b.out) (held_of b.state) [] → same_out a.out b.out → sent_of b.state ≡ sent_of a.state
+  pub room_made : ((x : S) → same_station x x) → (a b : AnswerStand S K O) → b.station ≡ a.station → Moves (put_of a.out) (held_of a.state) (put_of b.out) (held_of b.state) [] → same_out a.out b.out → sent_of b.state ≡ sent_of a.state
       → AnswersByPut exchanges_of refuses same_station put_of same_out sent_of held_of (Ok tt) [] a b
   room_made station_refl a b same moves kept sent = record {
     exchanges = [];
@@ -165,7 +165,7 @@ module _ {S K O : Type 0} (exchanges_of : S → List Exchange) (refuses : S → 
   }
 
   -- there was none
-  pub room_lacks : ((x : S) → same_station x x) → (e : ServeError) (p : List ℕ) (a b : Stand S K O) → IsUnput e → b.station ≡ a.station
+  pub room_lacks : ((x : S) → same_station x x) → (e : ServeError) (p : List ℕ) (a b : AnswerStand S K O) → IsLeftUnput e → b.station ≡ a.station
       → MovesSoFar {A = Unit {0}} (Err e) (put_of a.out) (held_of a.state) (put_of b.out) (held_of b.state) [] → same_out a.out b.out
       → AnswersByPut exchanges_of refuses same_station put_of same_out sent_of held_of (Err e) (p ∷ []) a b
   room_lacks station_refl e p a b unput same moves kept = record {
@@ -180,16 +180,16 @@ module _ {S K O : Type 0} (exchanges_of : S → List Exchange) (refuses : S → 
   }
 
   -- one packet whose answer is none, or is held
-  pub one_answer : (x : Exchange) (p : List ℕ) (a b : Stand S K O) → x.request ≡ command p → exchanges_of b.station ≡ exchanges_of a.station ++ x ∷ []
-      → put_of b.out ≡ put_of a.out → held_of b.state ≡ held_of a.state ++ packet_of x.answer → same_station a.station b.station → same_out a.out b.out → sent_of b.state ≡ sent_of a.state + length (packet_of x.answer)
+  pub one_answer : (x : Exchange) (p : List ℕ) (a b : AnswerStand S K O) → x.request ≡ command p → exchanges_of b.station ≡ exchanges_of a.station ++ x ∷ []
+      → put_of b.out ≡ put_of a.out → held_of b.state ≡ held_of a.state ++ packets_in_answer x.answer → same_station a.station b.station → same_out a.out b.out → sent_of b.state ≡ sent_of a.state + length (packets_in_answer x.answer)
       → AnswersByPut exchanges_of refuses same_station put_of same_out sent_of held_of (Ok tt) (p ∷ []) a b
   one_answer x p a b asked grown put held stays kept counted =
-      let all : packets_of (x ∷ []) ≡ packet_of x.answer = append-nil (packet_of x.answer) in
+      let all : packets_in_answers (x ∷ []) ≡ packets_in_answer x.answer = append-nil (packets_in_answer x.answer) in
       record {
         exchanges = x ∷ [];
         grown = grown;
         asks = λ i. asked i ∷ [];
-        moves = rw all (moves_in (packet_of x.answer) put held);
+        moves = rw all (moves_in (packets_in_answer x.answer) put held);
         stays = stays;
         kept = kept;
         counted = counted ∙ ap (λ (z : List (List ℕ)). sent_of a.state + length z) (sym all);
@@ -197,16 +197,16 @@ module _ {S K O : Type 0} (exchanges_of : S → List Exchange) (refuses : S → 
       }
 
   -- one packet for whose answer there was no memory
-  pub one_lost : (x : Exchange) (p : List ℕ) (a b : Stand S K O) → x.request ≡ command p → exchanges_of b.station ≡ exchanges_of a.station ++ x ∷ []
-      → put_of b.out ≡ put_of a.out → held_of b.state ≡ [] → packet_of x.answer ≢ [] → same_station a.station b.station → same_out a.out b.out
+  pub one_lost : (x : Exchange) (p : List ℕ) (a b : AnswerStand S K O) → x.request ≡ command p → exchanges_of b.station ≡ exchanges_of a.station ++ x ∷ []
+      → put_of b.out ≡ put_of a.out → held_of b.state ≡ [] → packets_in_answer x.answer ≢ [] → same_station a.station b.station → same_out a.out b.out
       → AnswersByPut exchanges_of refuses same_station put_of same_out sent_of held_of (Err errors.NoRoom) (p ∷ []) a b
   one_lost x p a b asked grown put held some stays kept =
-      let all : packets_of (x ∷ []) ≡ packet_of x.answer = append-nil (packet_of x.answer) in
+      let all : packets_in_answers (x ∷ []) ≡ packets_in_answer x.answer = append-nil (packets_in_answer x.answer) in
       record {
         exchanges = x ∷ [];
         grown = grown;
         asks = record { done = p ∷ []; later = []; packets_are = refl; asked = λ i. asked i ∷ [] };
-        moves = (rw all (lost_in (held_of a.state) (packet_of x.answer) put some), held);
+        moves = (rw all (lost_in (held_of a.state) (packets_in_answer x.answer) put some), held);
         stays = stays;
         kept = kept;
         counted = tt;
@@ -214,7 +214,7 @@ module _ {S K O : Type 0} (exchanges_of : S → List Exchange) (refuses : S → 
       }
 
   -- one packet whose command was refused
-  pub one_refused : ((x : S) → same_station x x) → ((x : O) → same_out x x) → (e : StationError) (p : List ℕ) (a b : Stand S K O) → b.station ≡ a.station → b.out ≡ a.out → held_of b.state ≡ held_of a.state → refuses b.station (command p) e
+  pub one_refused : ((x : S) → same_station x x) → ((x : O) → same_out x x) → (e : StationError) (p : List ℕ) (a b : AnswerStand S K O) → b.station ≡ a.station → b.out ≡ a.out → held_of b.state ≡ held_of a.state → refuses b.station (command p) e
       → AnswersByPut exchanges_of refuses same_station put_of same_out sent_of held_of (Err (refused_with e)) (p ∷ []) a b
   one_refused station_refl same_refl e p a b same out held may =
       let grown : exchanges_of b.station ≡ exchanges_of a.station ++ [] = ap exchanges_of same ∙ sym (append-nil (exchanges_of a.station)) in
@@ -236,24 +236,24 @@ module _ {S K O : Type 0} (exchanges_of : S → List Exchange) (refuses : S → 
       }
 
 -- what became of the packets, told of a call with nothing held at its beginning and at its end
-puts_of : (r : Result Served ServeError) (ps : List (List ℕ)) (xs : List Exchange) (a b : List (List ℕ)) → AsksSoFar (outcome r) ps xs → MovesSoFar (outcome r) a [] b [] (packets_of xs) → PutsSoFar r ps xs a b
-puts_of (Ok served) ps xs a b h m = record { asked = h; put = all_put (packets_of xs) m }
+puts_of : (r : Result Served ServeError) (ps : List (List ℕ)) (xs : List Exchange) (a b : List (List ℕ)) → AsksSoFar (outcome r) ps xs → MovesSoFar (outcome r) a [] b [] (packets_in_answers xs) → PutsSoFar r ps xs a b
+puts_of (Ok served) ps xs a b h m = record { asked = h; put = all_put (packets_in_answers xs) m }
 puts_of (Err errors.Write) ps xs a b h m = record { done = h.done; later = h.later; packets_are = h.packets_are; asked = h.asked; handed = m.0 }
-puts_of (Err errors.Memory) ps xs a b h m = record { done = h.done; later = h.later; packets_are = h.packets_are; answered = record { asked = h.asked; put = all_put (packets_of xs) m } }
-puts_of (Err errors.JournalFull) ps xs a b h m = record { done = h.done; later = h.later; packets_are = h.packets_are; answered = record { asked = h.asked; put = all_put (packets_of xs) m } }
+puts_of (Err errors.Memory) ps xs a b h m = record { done = h.done; later = h.later; packets_are = h.packets_are; answered = record { asked = h.asked; put = all_put (packets_in_answers xs) m } }
+puts_of (Err errors.JournalFull) ps xs a b h m = record { done = h.done; later = h.later; packets_are = h.packets_are; answered = record { asked = h.asked; put = all_put (packets_in_answers xs) m } }
 puts_of (Err errors.NoRoom) ps xs a b h m = record { done = h.done; later = h.later; packets_are = h.packets_are; asked = h.asked; handed = m.0 }
-puts_of (Err errors.Read) ps xs a b h m = record { asked = h; put = all_put (packets_of xs) m }
-puts_of (Err (errors.BadLength n)) ps xs a b h m = record { asked = h; put = all_put (packets_of xs) m }
-puts_of (Err errors.Truncated) ps xs a b h m = record { asked = h; put = all_put (packets_of xs) m }
-puts_of (Err errors.TurnsSpent) ps xs a b h m = record { asked = h; put = all_put (packets_of xs) m }
+puts_of (Err errors.Read) ps xs a b h m = record { asked = h; put = all_put (packets_in_answers xs) m }
+puts_of (Err (errors.BadLength n)) ps xs a b h m = record { asked = h; put = all_put (packets_in_answers xs) m }
+puts_of (Err errors.Truncated) ps xs a b h m = record { asked = h; put = all_put (packets_in_answers xs) m }
+puts_of (Err errors.TurnsSpent) ps xs a b h m = record { asked = h; put = all_put (packets_in_answers xs) m }
 
 counts_by : (r : Result Served ServeError) (ps : List (List ℕ)) (xs : List Exchange) (from to : ℕ) → from ≡ 0 → IfOk r (λ served. served.frames ≡ length ps) → IfOk r (λ served. served.sent ≡ to)
-    → OnOk (outcome r) (to ≡ from + length (packets_of xs)) → Counts r ps (packets_of xs)
+    → OnOk (outcome r) (to ≡ from + length (packets_in_answers xs)) → Counts r ps (packets_in_answers xs)
 counts_by (Ok served) ps xs from to z h k l = (h, omega (arith, z, k, l))
 counts_by (Err e) ps xs from to z h k l = tt
 
 -- there was no buffer
-pub by_memory : (m : ℕ) (i : Place) (old : List Exchange) (a : List (List ℕ)) → ServesBy m (Err errors.Memory) i i old old a a
+pub by_memory : (m : ℕ) (i : StreamPlace) (old : List Exchange) (a : List (List ℕ)) → ServesBy m (Err errors.Memory) i i old old a a
 by_memory m i old a = record {
   packets = [];
   behind = [];
@@ -267,7 +267,7 @@ by_memory m i old a = record {
 
 module _ {S K O : Type 0} (exchanges_of : S → List Exchange) (refuses : S → Request → StationError → Type 0) (same_station : S → S → Type 0) (put_of : O → List (List ℕ)) (same_out : O → O → Type 0) (sent_of : K → ℕ) (held_of : K → List (List ℕ)) where
   -- a call whose packets were answered so
-  pub by_of : (m : ℕ) (r : Result Served ServeError) (i o : Place) (a b : Stand S K O) → Streams (AnswersByPut exchanges_of refuses same_station put_of same_out sent_of held_of) m r i o a b
+  pub by_of : (m : ℕ) (r : Result Served ServeError) (i o : StreamPlace) (a b : AnswerStand S K O) → Streams (AnswersByPut exchanges_of refuses same_station put_of same_out sent_of held_of) m r i o a b
       → sent_of a.state ≡ 0 → held_of a.state ≡ [] → held_of b.state ≡ [] → IfOk r (λ served. served.sent ≡ sent_of b.state)
       → ServesBy m r i o (exchanges_of a.station) (exchanges_of b.station) (put_of a.out) (put_of b.out)
   by_of m r i o a b s none before after sent =
@@ -285,8 +285,8 @@ module _ {S K O : Type 0} (exchanges_of : S → List Exchange) (refuses : S → 
       }
 
   -- the request that the station refused
-  pub refused_by : (F : StationError → Type 0) (m : ℕ) (r : Result Served ServeError) (i o : Place) (a b : Stand S K O) → Streams (AnswersByPut exchanges_of refuses same_station put_of same_out sent_of held_of) m r i o a b
-      → OnRefusal r (λ e. F e ⊎ Refused exchanges_of refuses e (CommandNext m i o) (exchanges_of a.station) b.station)
+  pub refused_by : (F : StationError → Type 0) (m : ℕ) (r : Result Served ServeError) (i o : StreamPlace) (a b : AnswerStand S K O) → Streams (AnswersByPut exchanges_of refuses same_station put_of same_out sent_of held_of) m r i o a b
+      → OnRefusal r (λ e. F e ⊎ StationRefused exchanges_of refuses e (CommandNext m i o) (exchanges_of a.station) b.station)
   refused_by F m r i o a b s =
       refusal_of r _ (on_refusal_all (Unit {0}) (outcome r) _ _
       (λ e k. inr (refused_as exchanges_of refuses e (NextCommand s.packets) (CommandNext m i o) (exchanges_of a.station) b.station

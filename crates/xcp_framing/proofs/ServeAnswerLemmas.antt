@@ -3,16 +3,16 @@ use Rattle.std.proofs.Common.{◌≡◌, ◌≢◌, ◌<◌, ◌≤◌, ◌+◌,
 use Rattle.std.proofs.lemmas.List.{append-nil}
 use Rattle.xcp_slave.specs.declared.Exchange.{Exchange}
 use Rattle.xcp_slave.specs.declared.Request.{Request}
-use Rattle.xcp_framing.specs.CountedCalls.{Place}
+use Rattle.xcp_framing.specs.CountedCalls.{StreamPlace}
 use Rattle.xcp_framing.specs.declared.station.StationError.{StationError}
 use Rattle.xcp_framing.specs.declared.serving.Served.{Served}
 use Rattle.xcp_framing.specs.declared.serving.ServeError.{ServeError}
 use Rattle.xcp_framing.specs.declared.serving.ServeError.TheVariants as errors
-use Rattle.xcp_framing.specs.Serve.{packets_of, AnswersAll, AnswersSoFar, Writes, Counts, Serves}
-use Rattle.xcp_framing.specs.ServeRefusal.{OnRefusal, Refused, AsksNext, ReadsNext}
+use Rattle.xcp_framing.specs.Serve.{packets_in_answers, AnswersAll, AnswersSoFar, WritesText, Counts, Serves}
+use Rattle.xcp_framing.specs.ServeRefusal.{OnRefusal, StationRefused, AsksNext, ReadsNext}
 use Rattle.xcp_framing.specs.ServeParts.{IsInterruption}
 use Rattle.xcp_framing.specs.FrameOutput.{FrameWriterValue, Output, Sends, output}
-use Rattle.xcp_framing.specs.private.AnsweredStream.{Stand, Streams, outcome}
+use Rattle.xcp_framing.specs.private.AnsweredStream.{AnswerStand, Streams, outcome}
 use Rattle.xcp_framing.specs.private.FramesAnswered.{AnswersInFrames, HandsFramesOn}
 use Rattle.xcp_framing.proofs.KnownBytesLemmas.{appends_none}
 use Rattle.xcp_framing.proofs.FrameOutputLemmas.{all_written, writes_sent}
@@ -34,12 +34,12 @@ rises (Err errors.NoRoom) a b same more = let e = same (λ w. cc) in omega (arit
 
 -- a request that a station refused, told of more packets
 pub refused_as : {S : Type 0} (exchanges_of : S → List Exchange) (refuses : S → Request → StationError → Type 0) (e : StationError) (Next Later : List Exchange → Request → Type 0) (old : List Exchange) (new : S)
-    → ((xs : List Exchange) (q : Request) → Next xs q → Later xs q) → Refused exchanges_of refuses e Next old new → Refused exchanges_of refuses e Later old new
+    → ((xs : List Exchange) (q : Request) → Next xs q → Later xs q) → StationRefused exchanges_of refuses e Next old new → StationRefused exchanges_of refuses e Later old new
 refused_as exchanges_of refuses e Next Later old new f r = record { exchanges = r.exchanges; grown = r.grown; request = r.request; next = f r.exchanges r.request r.next; may = r.may }
 
 module _ {S K O : Type 0} (exchanges_of : S → List Exchange) (refuses : S → Request → StationError → Type 0) (frames_of : K → FrameWriterValue) (contents_of : O → Option (List ℕ)) (failures_of : O → ℕ) where
   -- no packet
-  pub frames_none : (a : Stand S K O) → AnswersInFrames exchanges_of refuses frames_of contents_of failures_of (Ok tt) [] a a
+  pub frames_none : (a : AnswerStand S K O) → AnswersInFrames exchanges_of refuses frames_of contents_of failures_of (Ok tt) [] a a
   frames_none a = record {
     grows = grows_none (AnswersAll []) (exchanges_of a.station) (output (contents_of a.out) (frames_of a.state)) (frames_of a.state).sent refl;
     unfailed = λ n. refl;
@@ -50,7 +50,7 @@ module _ {S K O : Type 0} (exchanges_of : S → List Exchange) (refuses : S → 
   }
 
   -- packets, and then more
-  pub frames_more : (r : Result (Unit {0}) ServeError) (ps qs : List (List ℕ)) (a b c : Stand S K O)
+  pub frames_more : (r : Result (Unit {0}) ServeError) (ps qs : List (List ℕ)) (a b c : AnswerStand S K O)
       → AnswersInFrames exchanges_of refuses frames_of contents_of failures_of (Ok tt) ps a b → AnswersInFrames exchanges_of refuses frames_of contents_of failures_of r qs b c → AnswersInFrames exchanges_of refuses frames_of contents_of failures_of r (ps ++ qs) a c
   frames_more r ps qs a b c x y =
       let unfailed : failures_of b.out ≡ failures_of a.out = x.unfailed (λ e. cc) in
@@ -64,7 +64,7 @@ module _ {S K O : Type 0} (exchanges_of : S → List Exchange) (refuses : S → 
       }
 
   -- an interruption leaves the packets that come later
-  pub frames_before : (e : ServeError) (ps qs : List (List ℕ)) (a b : Stand S K O) → IsInterruption e
+  pub frames_before : (e : ServeError) (ps qs : List (List ℕ)) (a b : AnswerStand S K O) → IsInterruption e
       → AnswersInFrames exchanges_of refuses frames_of contents_of failures_of (Err e) ps a b → AnswersInFrames exchanges_of refuses frames_of contents_of failures_of (Err e) (ps ++ qs) a b
   frames_before e ps qs a b i x = record {
     grows = record { exchanges = x.grows.exchanges; grown = x.grows.grown; fact = answers_before (Unit {0}) e ps qs x.grows.exchanges i x.grows.fact; sends = x.grows.sends; counts = tt };
@@ -76,7 +76,7 @@ module _ {S K O : Type 0} (exchanges_of : S → List Exchange) (refuses : S → 
   }
 
   -- what was held is written
-  pub frames_handed : (r : Result (Unit {0}) ServeError) (ps : List (List ℕ)) (a b : Stand S K O) (k : K) (o : O)
+  pub frames_handed : (r : Result (Unit {0}) ServeError) (ps : List (List ℕ)) (a b : AnswerStand S K O) (k : K) (o : O)
       → AnswersInFrames exchanges_of refuses frames_of contents_of failures_of r ps a b → HandsFramesOn frames_of contents_of failures_of (Ok tt) b.state b.out k o
       → AnswersInFrames exchanges_of refuses frames_of contents_of failures_of r ps a (record { station = b.station; state = k; out = o })
   frames_handed r ps a b k o x h = record {
@@ -89,7 +89,7 @@ module _ {S K O : Type 0} (exchanges_of : S → List Exchange) (refuses : S → 
   }
 
   -- a write of what was held failed
-  pub frames_held : (r : Result (Unit {0}) ServeError) (e : ServeError) (ps : List (List ℕ)) (a b : Stand S K O) (k : K) (o : O)
+  pub frames_held : (r : Result (Unit {0}) ServeError) (e : ServeError) (ps : List (List ℕ)) (a b : AnswerStand S K O) (k : K) (o : O)
       → AnswersInFrames exchanges_of refuses frames_of contents_of failures_of r ps a b → HandsFramesOn frames_of contents_of failures_of (Err e) b.state b.out k o
       → AnswersInFrames exchanges_of refuses frames_of contents_of failures_of (Err e) ps a (record { station = b.station; state = k; out = o })
   frames_held r e ps a b k o x h =
@@ -117,7 +117,7 @@ answers_of (Err (errors.BadLength n)) ps xs h = h
 answers_of (Err errors.Truncated) ps xs h = h
 answers_of (Err errors.TurnsSpent) ps xs h = h
 
-writes_of : (r : Result Served ServeError) (a b : Output) (t : List ℕ) → Sends (outcome r) a b t → a.held ≡ [] → b.held ≡ [] → Writes r a.contents b.contents t
+writes_of : (r : Result Served ServeError) (a b : Output) (t : List ℕ) → Sends (outcome r) a b t → a.held ≡ [] → b.held ≡ [] → WritesText r a.contents b.contents t
 writes_of (Ok served) a b t h e f = all_written a b t h e f
 writes_of (Err errors.Write) a b t h e f = writes_sent (Unit {0}) Served errors.Write a b t h e f
 writes_of (Err errors.Memory) a b t h e f = all_written a b t h e f
@@ -129,7 +129,7 @@ writes_of (Err errors.Truncated) a b t h e f = all_written a b t h e f
 writes_of (Err errors.TurnsSpent) a b t h e f = all_written a b t h e f
 
 counts_of : (r : Result Served ServeError) (ps : List (List ℕ)) (xs : List Exchange) (from to : ℕ) → from ≡ 0 → IfOk r (λ served. served.frames ≡ length ps) → IfOk r (λ served. served.sent ≡ to)
-    → OnOk (outcome r) (to ≡ from + length (packets_of xs)) → Counts r ps (packets_of xs)
+    → OnOk (outcome r) (to ≡ from + length (packets_in_answers xs)) → Counts r ps (packets_in_answers xs)
 counts_of (Ok served) ps xs from to z h k l = (h, omega (arith, z, k, l))
 counts_of (Err e) ps xs from to z h k l = tt
 
@@ -162,7 +162,7 @@ refusal_of (Err errors.Truncated) F h = tt
 refusal_of (Err errors.TurnsSpent) F h = tt
 
 -- there was no buffer
-pub serves_memory : (m : ℕ) (i : Place) (old : List Exchange) (a : Option (List ℕ)) → Serves m (Err errors.Memory) i i old old a a
+pub serves_memory : (m : ℕ) (i : StreamPlace) (old : List Exchange) (a : Option (List ℕ)) → Serves m (Err errors.Memory) i i old old a a
 serves_memory m i old a = record {
   packets = [];
   behind = [];
@@ -177,7 +177,7 @@ serves_memory m i old a = record {
 
 module _ {S K O : Type 0} (exchanges_of : S → List Exchange) (refuses : S → Request → StationError → Type 0) (frames_of : K → FrameWriterValue) (contents_of : O → Option (List ℕ)) (failures_of : O → ℕ) where
   -- a call whose packets were answered in frames, with nothing held at its beginning and at its end
-  pub serves_of : (m : ℕ) (r : Result Served ServeError) (i o : Place) (a b : Stand S K O) → Streams (AnswersInFrames exchanges_of refuses frames_of contents_of failures_of) m r i o a b
+  pub serves_of : (m : ℕ) (r : Result Served ServeError) (i o : StreamPlace) (a b : AnswerStand S K O) → Streams (AnswersInFrames exchanges_of refuses frames_of contents_of failures_of) m r i o a b
       → (frames_of a.state).sent ≡ 0 → (frames_of a.state).held ≡ [] → (frames_of b.state).held ≡ [] → IfOk r (λ served. served.sent ≡ (frames_of b.state).sent)
       → Serves m r i o (exchanges_of a.station) (exchanges_of b.station) (contents_of a.out) (contents_of b.out)
   serves_of m r i o a b s none before after sent =
@@ -197,8 +197,8 @@ module _ {S K O : Type 0} (exchanges_of : S → List Exchange) (refuses : S → 
       }
 
   -- the request that the station refused
-  pub refuses_of : (F : StationError → Type 0) (m : ℕ) (r : Result Served ServeError) (i o : Place) (a b : Stand S K O) → Streams (AnswersInFrames exchanges_of refuses frames_of contents_of failures_of) m r i o a b
-      → OnRefusal r (λ e. F e ⊎ Refused exchanges_of refuses e (ReadsNext m i o) (exchanges_of a.station) b.station)
+  pub refuses_of : (F : StationError → Type 0) (m : ℕ) (r : Result Served ServeError) (i o : StreamPlace) (a b : AnswerStand S K O) → Streams (AnswersInFrames exchanges_of refuses frames_of contents_of failures_of) m r i o a b
+      → OnRefusal r (λ e. F e ⊎ StationRefused exchanges_of refuses e (ReadsNext m i o) (exchanges_of a.station) b.station)
   refuses_of F m r i o a b s =
       refusal_of r _ (on_refusal_all (Unit {0}) (outcome r) _ _
       (λ e k. inr (refused_as exchanges_of refuses e (AsksNext s.packets) (ReadsNext m i o) (exchanges_of a.station) b.station

@@ -8,10 +8,10 @@ use Rattle.xcp_framing.specs.declared.station.StationError.{StationError}
 use Rattle.xcp_framing.specs.declared.station.StationError.TheVariants as refusals
 use Rattle.xcp_framing.specs.declared.serving.ServeError.{ServeError}
 use Rattle.xcp_framing.specs.declared.serving.ServeError.TheVariants as errors
-use Rattle.xcp_framing.specs.CountedCalls.{Place}
+use Rattle.xcp_framing.specs.CountedCalls.{StreamPlace}
 use Rattle.xcp_framing.specs.Frames.{frames, rest}
 use Rattle.xcp_framing.specs.Serve.{AnswersAll, OnRead, refused_with}
-use Rattle.xcp_framing.specs.ServeRefusal.{OnRefusal, DrainsNext, AsksNext, Refused}
+use Rattle.xcp_framing.specs.ServeRefusal.{OnRefusal, DrainsNext, AsksNext, StationRefused}
 use Rattle.xcp_framing.proofs.ExchangeLemmas.{answers_all_more}
 
 -- the station's error, as the call's
@@ -37,7 +37,7 @@ on_refusal_all A (Err e) F G f h = on_refusal_map A A e F G f h
 
 -- exchanges before the part of the call that was refused
 pub refused_more : {S : Type 0} (exchanges_of : S → List Exchange) (refuses : S → Request → StationError → Type 0) (e : StationError) (Next Later : List Exchange → Request → Type 0) {old mid : List Exchange} {new : S} (xs : List Exchange)
-    → mid ≡ old ++ xs → ((ys : List Exchange) (q : Request) → Next ys q → Later (xs ++ ys) q) → Refused exchanges_of refuses e Next mid new → Refused exchanges_of refuses e Later old new
+    → mid ≡ old ++ xs → ((ys : List Exchange) (q : Request) → Next ys q → Later (xs ++ ys) q) → StationRefused exchanges_of refuses e Next mid new → StationRefused exchanges_of refuses e Later old new
 refused_more exchanges_of refuses e Next Later {old = old} xs g f r = record {
   exchanges = xs ++ r.exchanges;
   grown = r.grown ∙ ap (λ (z : List Exchange). z ++ r.exchanges) g ∙ append_assoc old xs r.exchanges;
@@ -52,7 +52,7 @@ asks_command p = record { done = []; packet = p; later = []; full = []; cut = []
 
 -- a packet's command was refused
 pub refused_command : {S : Type 0} (exchanges_of : S → List Exchange) (refuses : S → Request → StationError → Type 0) (e : StationError) (p : List ℕ) (state : S) {new : S}
-    → exchanges_of new ≡ exchanges_of state → refuses new (requests.Command (record { items = p })) e → Refused exchanges_of refuses e (AsksNext (p ∷ [])) (exchanges_of state) new
+    → exchanges_of new ≡ exchanges_of state → refuses new (requests.Command (record { items = p })) e → StationRefused exchanges_of refuses e (AsksNext (p ∷ [])) (exchanges_of state) new
 refused_command exchanges_of refuses e p state same may = record {
   exchanges = [];
   grown = same ∙ sym (append-nil (exchanges_of state));
@@ -94,5 +94,5 @@ asks_before ps qs xs q k = record {
 }
 
 -- the packets alone of what was read
-pub read_packets : (m : ℕ) (i n : Place) (packets : List (List ℕ)) (behind : List ℕ) → OnRead i n (λ stream. (packets ≡ frames m stream) × (behind ≡ rest m stream)) → OnRead i n (λ stream. packets ≡ frames m stream)
+pub read_packets : (m : ℕ) (i n : StreamPlace) (packets : List (List ℕ)) (behind : List ℕ) → OnRead i n (λ stream. (packets ≡ frames m stream) × (behind ≡ rest m stream)) → OnRead i n (λ stream. packets ≡ frames m stream)
 read_packets m i n packets behind h = record { stream = h.stream; gave = h.gave; known = h.known; fact = h.fact.0 }

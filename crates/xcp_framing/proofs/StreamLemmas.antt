@@ -6,7 +6,7 @@ use Rattle.std.proofs.KnownBytes.{Consumes-nil, Consumes-trans}
 use Rattle.std.specs.Io.KnownBytes.{Consumes, Keeps}
 use Rattle.xcp_framing.specs.declared.serving.ServeError.{ServeError}
 use Rattle.xcp_framing.specs.declared.serving.ServeError.TheVariants as errors
-use Rattle.xcp_framing.specs.CountedCalls.{Place}
+use Rattle.xcp_framing.specs.CountedCalls.{StreamPlace}
 use Rattle.xcp_framing.specs.Frames.{frames, rest}
 use Rattle.xcp_framing.specs.Serve.{OnRead, EndsStream, EndsReader}
 use Rattle.xcp_framing.specs.private.GrowingOutput.{EndsPiece}
@@ -25,11 +25,11 @@ consumes_kept (Some xs) (Some ys) None s h k = absurd k
 consumes_kept (Some xs) (Some ys) (Some zs) s h k = h ∙ ap (λ (z : List ℕ). s ++ z) (sym k)
 
 -- nothing was read
-pub read_none : (m : ℕ) (i : Place) → OnRead i i (IsOf m [] [])
+pub read_none : (m : ℕ) (i : StreamPlace) → OnRead i i (IsOf m [] [])
 read_none m i = record { stream = []; gave = sym (append-nil i.read); known = Consumes-nil i.left; fact = (refl, refl) }
 
 -- no more was read
-pub read_kept : (i o n : Place) (Fact : List ℕ → Type 0) → OnRead i o Fact → Keeps o.left n.left → n.read ≡ o.read → OnRead i n Fact
+pub read_kept : (i o n : StreamPlace) (Fact : List ℕ → Type 0) → OnRead i o Fact → Keeps o.left n.left → n.read ≡ o.read → OnRead i n Fact
 read_kept i o n Fact h k same = record { stream = h.stream; gave = same ∙ h.gave; known = consumes_kept i.left o.left n.left h.stream h.known k; fact = h.fact }
 
 -- a read that gives no bytes leaves the reader's bytes as they were
@@ -39,7 +39,7 @@ keeps_end (Some xs) None h = absurd h
 keeps_end (Some xs) (Some ys) h = sym h
 
 -- a piece more was read
-pub read_more : (m : ℕ) (i o n : Place) (packets : List (List ℕ)) (held chunk : List ℕ) → OnRead i o (IsOf m packets held) → Consumes o.left n.left chunk → n.read ≡ o.read ++ chunk
+pub read_more : (m : ℕ) (i o n : StreamPlace) (packets : List (List ℕ)) (held chunk : List ℕ) → OnRead i o (IsOf m packets held) → Consumes o.left n.left chunk → n.read ≡ o.read ++ chunk
     → OnRead i n (IsOf m (packets ++ frames m (held ++ chunk)) (rest m (held ++ chunk)))
 read_more m i o n packets held chunk h k more =
     let cut = cuts_alike m h.stream chunk in

@@ -37,13 +37,13 @@ Gives (Ok n) buffer old new = new.read ≡ old.read ++ take n buffer
 Gives (Err e) buffer old new = new.read ≡ old.read
 
 -- Where a stream stands: the bytes that reads will give from here on, where a contract can know them, and those that they gave.
-pub record Place : Type 0 where
+pub record StreamPlace : Type 0 where
   pub left : Option (List ℕ)
   pub read : List ℕ
 
 -- where the stream of a watched reader stands, whose bytes `remaining` tells
-abbrev pub place_of : {I : Type 0} → (I → Option (List ℕ)) → Watched I → Place
-place_of remaining reader = record { left = remaining reader.inner; read = reader.read }
+abbrev pub stream_place : {I : Type 0} → (I → Option (List ℕ)) → Watched I → StreamPlace
+stream_place remaining reader = record { left = remaining reader.inner; read = reader.read }
 
 -- each read between these two values of a reader was of such a size
 pub record EachRead {R : Type 0} (Size : ℕ → Type 0) (old new : Watched R) : Type 0 where

@@ -12,8 +12,8 @@ pub record FrameWriterValue : Type 0 where
   pub held : List ℕ
 
 -- A packet's frame, which is LEN, CTR and the packet, finds room beside those that are held: at most 4096 bytes are.
-abbrev pub Fits : FrameWriterValue → List ℕ → Type 0
-Fits frames packet = length frames.held + (4 + length packet) ≤ 4096
+abbrev pub FindsRoom : FrameWriterValue → List ℕ → Type 0
+FindsRoom frames packet = length frames.held + (4 + length packet) ≤ 4096
 
 -- what was sent: the bytes that the writer has, where it tells them, and behind them those that are held
 pub record Output : Type 0 where

@@ -5,7 +5,7 @@ use Rattle.xcp_slave.specs.declared.Request.{Request}
 use Rattle.xcp_slave.specs.declared.Request.TheVariants as requests
 use Rattle.xcp_framing.specs.declared.serving.ServeError.{ServeError}
 use Rattle.xcp_framing.specs.declared.serving.ServeError.TheVariants as errors
-use Rattle.xcp_framing.specs.Serve.{packets_of}
+use Rattle.xcp_framing.specs.Serve.{packets_in_answers}
 use Rattle.xcp_framing.specs.ServeBy.{IsHandedBack}
 
 abbrev pub AllDrains : List Exchange → Type 0
@@ -15,12 +15,12 @@ AllDrains (x ∷ xs) = (x.request ≡ requests.Drain) × AllDrains xs
 -- the exchanges are Drains, and the packets of their answers were put
 pub record PutsDrains (exchanges : List Exchange) (before after : List (List ℕ)) : Type 0 where
   pub drains : AllDrains exchanges
-  pub put : after ≡ before ++ packets_of exchanges
+  pub put : after ≡ before ++ packets_in_answers exchanges
 
 -- of their packets a batch was handed back, or had no memory
 pub record DrainsUpTo (exchanges : List Exchange) (before after : List (List ℕ)) : Type 0 where
   pub drains : AllDrains exchanges
-  pub handed : IsHandedBack (packets_of exchanges) before after
+  pub handed : IsHandedBack (packets_in_answers exchanges) before after
 
 abbrev pub Pumped : {R : Type 0} → Result R ServeError → List Exchange → List (List ℕ) → List (List ℕ) → Type 0
 Pumped (Err errors.Write) exchanges before after = DrainsUpTo exchanges before after
@@ -31,8 +31,8 @@ Pumped _ exchanges before after = PutsDrains exchanges before after
 -- the batch was given up. No write comes here, which could fail.
 abbrev pub Gathered : {R : Type 0} → Result R ServeError → List Exchange → List (List ℕ) → List (List ℕ) → Type 0
 Gathered (Err errors.Write) exchanges held held' = ⊥
-Gathered (Err errors.NoRoom) exchanges held held' = (packets_of exchanges ≢ []) × (held' ≡ [])
-Gathered _ exchanges held held' = held' ≡ held ++ packets_of exchanges
+Gathered (Err errors.NoRoom) exchanges held held' = (packets_in_answers exchanges ≢ []) × (held' ≡ [])
+Gathered _ exchanges held held' = held' ≡ held ++ packets_in_answers exchanges
 
 -- One call of `drain_into`, which submits at most so many Drains: `old` and `new` are the station's exchanges, `held` and `held'` the
 -- packets of the batch.
@@ -42,14 +42,14 @@ pub record DrainsInto (most : ℕ) (result : Result ℕ ServeError) (old new : L
   pub drains : AllDrains exchanges
   pub few : length exchanges ≤ most
   pub gathers : Gathered result exchanges held held'
-  pub counts : (n : ℕ) → result ≡ Ok n → n ≡ length (packets_of exchanges)
+  pub counts : (n : ℕ) → result ≡ Ok n → n ≡ length (packets_in_answers exchanges)
 
 -- One call of `pump`: `old` and `new` are the station's exchanges, `before` and `after` the packets put.
 pub record Pumps (result : Result ℕ ServeError) (old new : List Exchange) (before after : List (List ℕ)) : Type 0 where
   pub exchanges : List Exchange
   pub grown : new ≡ old ++ exchanges
   pub puts : Pumped result exchanges before after
-  pub counts : (n : ℕ) → result ≡ Ok n → n ≡ length (packets_of exchanges)
+  pub counts : (n : ℕ) → result ≡ Ok n → n ≡ length (packets_in_answers exchanges)
 
 -- behind Drains, one more
 abbrev pub DrainAgain : List Exchange → Request → Type 0

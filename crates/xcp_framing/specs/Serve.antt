@@ -12,24 +12,24 @@ use Rattle.xcp_framing.specs.declared.station.StationError.TheVariants as refusa
 use Rattle.xcp_framing.specs.declared.serving.Served.{Served}
 use Rattle.xcp_framing.specs.declared.serving.ServeError.{ServeError}
 use Rattle.xcp_framing.specs.declared.serving.ServeError.TheVariants as errors
-use Rattle.xcp_framing.specs.CountedCalls.{Watched, Place}
+use Rattle.xcp_framing.specs.CountedCalls.{Watched, StreamPlace}
 use Rattle.xcp_framing.specs.Prefix.{AppendsFront}
 use Rattle.xcp_framing.specs.Wire.{wire, len_of, IsBadLength}
 use Rattle.xcp_framing.specs.Frames.{frames, rest}
 
 -- the packets of an answer, if it has some
-abbrev pub packet_of : Answer → List (List ℕ)
-packet_of (answers.Packets packets) = packets
-packet_of _ = []
+abbrev pub packets_in_answer : Answer → List (List ℕ)
+packets_in_answer (answers.Packets packets) = packets
+packets_in_answer _ = []
 
 -- the packets of the answers, in order
-abbrev pub packets_of : List Exchange → List (List ℕ)
-packets_of exchanges = flat_map (λ x. packet_of x.answer) exchanges
+abbrev pub packets_in_answers : List Exchange → List (List ℕ)
+packets_in_answers exchanges = flat_map (λ x. packets_in_answer x.answer) exchanges
 
 -- a Drain that gave a packet
 pub record GavePacket (x : Exchange) : Type 0 where
   pub drain : x.request ≡ requests.Drain
-  pub gave : packet_of x.answer ≢ []
+  pub gave : packets_in_answer x.answer ≢ []
 
 -- the most Drains behind a command
 abbrev pub most_drains : ℕ
@@ -42,7 +42,7 @@ most_train = 37
 -- behind n Drains that gave a packet each: one that gave none; none at all where they were the most
 abbrev pub EndsDrains : ℕ → List Exchange → Type 0
 EndsDrains n [] = n ≡ most_drains
-EndsDrains n (x ∷ more) = (n < most_drains) × (x.request ≡ requests.Drain) × (packet_of x.answer ≡ []) × (more ≡ [])
+EndsDrains n (x ∷ more) = (n < most_drains) × (x.request ≡ requests.Drain) × (packets_in_answer x.answer ≡ []) × (more ≡ [])
 
 -- The Drains behind a command: up to and with the first that gives no packet, at most 64.
 pub record Drained (exchanges : List Exchange) : Type 0 where
@@ -92,13 +92,13 @@ AnswersSoFar (Err errors.NoRoom) packets exchanges = AnswersPart packets exchang
 AnswersSoFar _ packets exchanges = AnswersAll packets exchanges
 
 -- All of the text was written, unless a write ended the call: then a front of it.
-abbrev pub Writes : {A : Type 0} → Result A ServeError → Option (List ℕ) → Option (List ℕ) → List ℕ → Type 0
-Writes (Err errors.Write) before after text = AppendsFront before after text
-Writes _ before after text = Appends before after text
+abbrev pub WritesText : {A : Type 0} → Result A ServeError → Option (List ℕ) → Option (List ℕ) → List ℕ → Type 0
+WritesText (Err errors.Write) before after text = AppendsFront before after text
+WritesText _ before after text = Appends before after text
 
 -- A fact about the bytes that were read between two places of a stream: where a contract knows those that it had, they are these
 -- without those that are left.
-pub record OnRead (from to : Place) (Fact : List ℕ → Type 0) : Type 0 where
+pub record OnRead (from to : StreamPlace) (Fact : List ℕ → Type 0) : Type 0 where
   pub stream : List ℕ
   pub gave : to.read ≡ from.read ++ stream
   pub known : Consumes from.left to.left stream
@@ -144,7 +144,7 @@ IsStreamRead = IsReadOf 512
 
 -- One call of `serve`, where MAX_CTO is m: `from` and `to` are where the stream stands before and after, `old` and `new` the
 -- station's exchanges, `before` and `after` the writer's bytes.
-pub record Serves (m : ℕ) (result : Result Served ServeError) (from to : Place) (old new : List Exchange) (before after : Option (List ℕ)) : Type 0 where
+pub record Serves (m : ℕ) (result : Result Served ServeError) (from to : StreamPlace) (old new : List Exchange) (before after : Option (List ℕ)) : Type 0 where
   -- the packets of the bytes read, and what stands behind them
   pub packets : List (List ℕ)
   pub behind : List ℕ
@@ -154,10 +154,10 @@ pub record Serves (m : ℕ) (result : Result Served ServeError) (from to : Place
   pub grown : new ≡ old ++ exchanges
   pub answers : AnswersSoFar result packets exchanges
   -- the frames of the answers' packets
-  pub writes : Writes result before after (wire (packets_of exchanges))
+  pub writes : WritesText result before after (wire (packets_in_answers exchanges))
   -- the end of the stream
   pub ends : EndsStream m result behind
-  pub counts : Counts result packets (packets_of exchanges)
+  pub counts : Counts result packets (packets_in_answers exchanges)
 
 -- the number of an error; want of memory has one, of the station and of packets alike
 abbrev pub number_of : ServeError → ℕ

@@ -7,7 +7,7 @@ use Rattle.xcp_framing.specs.declared.station.StationError.{StationError}
 use Rattle.xcp_framing.specs.declared.station.StationError.TheVariants as refusals
 use Rattle.xcp_framing.specs.declared.serving.ServeError.{ServeError}
 use Rattle.xcp_framing.specs.declared.serving.ServeError.TheVariants as errors
-use Rattle.xcp_framing.specs.CountedCalls.{Place}
+use Rattle.xcp_framing.specs.CountedCalls.{StreamPlace}
 use Rattle.xcp_framing.specs.Frames.{frames}
 use Rattle.xcp_framing.specs.Serve.{GavePacket, AnswersAll, OnRead, most_drains}
 
@@ -45,14 +45,14 @@ pub record AsksNext (packets : List (List ℕ)) (exchanges : List Exchange) (req
   pub asks : AsksOne packet cut request
 
 -- the request that comes next behind these exchanges, for the packets of the bytes read, where MAX_CTO is m
-pub record ReadsNext (m : ℕ) (from to : Place) (exchanges : List Exchange) (request : Request) : Type 0 where
+pub record ReadsNext (m : ℕ) (from to : StreamPlace) (exchanges : List Exchange) (request : Request) : Type 0 where
   pub packets : List (List ℕ)
   pub read : OnRead from to (λ stream. packets ≡ frames m stream)
   pub asks : AsksNext packets exchanges request
 
 -- A station, of which `exchanges_of` and `refuses` tell, refused the request that comes next: as it is now, it may refuse this
 -- request so. Its exchanges are the old ones and those of the call.
-pub record Refused {S : Type 0} (exchanges_of : S → List Exchange) (refuses : S → Request → StationError → Type 0) (error : StationError) (Next : List Exchange → Request → Type 0) (old : List Exchange) (now : S) : Type 0 where
+pub record StationRefused {S : Type 0} (exchanges_of : S → List Exchange) (refuses : S → Request → StationError → Type 0) (error : StationError) (Next : List Exchange → Request → Type 0) (old : List Exchange) (now : S) : Type 0 where
   pub exchanges : List Exchange
   pub grown : exchanges_of now ≡ old ++ exchanges
   pub request : Request

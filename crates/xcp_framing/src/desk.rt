@@ -60,7 +60,7 @@ impl Desk {
     }
 
     /// Does nothing: its contract says that the exchanges are a run, which each desk keeps.
-    pub fn audit(&self)
+    pub fn known(&self)
         ensures { Run (opening (layout_of self.now.slave)) self.now.exchanges self.now.slave }
     {
         let _ = &self.slave;
@@ -120,7 +120,7 @@ impl Station for Desk {
         ensures layout { layout_of self.new.slave ≡ layout_of self.old.slave }
     {
         let mut packet = Packet::new();
-        let told = self.submit_into(request.asked(), &mut packet)?;
+        let told = self.submit_into(request.lent(), &mut packet)?;
         Ok(told.with(packet))
     }
 }

@@ -1,7 +1,7 @@
 //! Frames that are gathered, so that one write takes many of them.
 ghost use Rattle.std.specs.Prelude.{◌≡◌, ◌<◌, ◌≤◌, ◌+◌, ◌%◌, ◌^◌, ◌⊎◌, [], ◌∷◌, ◌++◌, OnOk, OnErr, IfOk, IfErr, false, length, true};
-ghost use Rattle.xcp_framing.specs.FrameOutput.{Fits, Sends, output};
-ghost use Rattle.xcp_framing.specs.Serve.{Writes};
+ghost use Rattle.xcp_framing.specs.FrameOutput.{FindsRoom, Sends, output};
+ghost use Rattle.xcp_framing.specs.Serve.{WritesText};
 ghost use Rattle.xcp_framing.specs.Wire.{frame_bytes, wire_from};
 
 use crate::wire::{HEADER_SIZE, header};
@@ -62,8 +62,8 @@ impl FrameWriter {
     /// Whether the packet's frame finds room beside those that are held. Where none is held, each does.
     pub fn has_room(&self, packet: &[u8]) -> bool
         requires { length packet.now ≤ 255 }
-        ensures some { result ≡ true → Fits self.now packet.now }
-        ensures none { result ≡ false → ¬ Fits self.now packet.now }
+        ensures some { result ≡ true → FindsRoom self.now packet.now }
+        ensures none { result ≡ false → ¬ FindsRoom self.now packet.now }
         ensures each { 4 + length packet.now ≤ 4096 }
     {
         self.has_room_within(packet, GATHERED_BYTES)
@@ -72,9 +72,9 @@ impl FrameWriter {
     /// Whether the packet's frame finds room beside those that are held, and all of them have at most so many bytes.
     pub fn has_room_within(&self, packet: &[u8], most: usize) -> bool
         requires { length packet.now ≤ 255 }
-        ensures some { result ≡ true → Fits self.now packet.now
+        ensures some { result ≡ true → FindsRoom self.now packet.now
             × (length self.now.held + (4 + length packet.now) ≤ most) }
-        ensures none { result ≡ false → (¬ Fits self.now packet.now)
+        ensures none { result ≡ false → (¬ FindsRoom self.now packet.now)
             ⊎ (most < length self.now.held + (4 + length packet.now)) }
         ensures each { 4 + length packet.now ≤ 4096 }
     {
@@ -87,7 +87,7 @@ impl FrameWriter {
     #[inline(always)]
     pub fn push(&mut self, packet: &[u8])
         requires short { length packet.now ≤ 255 }
-        requires room { Fits self.old packet.now }
+        requires room { FindsRoom self.old packet.now }
         ensures held { self.new.held ≡ self.old.held ++ frame_bytes self.old.sent packet.now }
         ensures counts { self.new.sent ≡ (self.old.sent + 1) % 2 ^ 64 }
     {
@@ -129,7 +129,7 @@ impl FrameWriter {
         ensures sends { Sends result
             (output (W.contents writer.old.inner) self.old)
             (output (W.contents writer.new.inner) self.new) [] }
-        ensures room { OnOk result (Fits self.new packet.now.items) }
+        ensures room { OnOk result (FindsRoom self.new packet.now.items) }
         ensures sent { self.new.sent ≡ self.old.sent }
         ensures fine { OnOk result (writer.new.failures ≡ writer.old.failures) }
         ensures dropped { OnErr result (self.new.held ≡ []) }
@@ -144,7 +144,7 @@ impl FrameWriter {
 
     /// Writes what is held. Nothing is held then, also where the write failed.
     pub fn flush<W: Write>(&mut self, writer: &mut Watched<W>) -> Result<(), ServeError>
-        ensures writes { Writes result (W.contents writer.old.inner) (W.contents writer.new.inner)
+        ensures writes { WritesText result (W.contents writer.old.inner) (W.contents writer.new.inner)
             self.old.held }
         ensures held { self.new.held ≡ [] }
         ensures sent { self.new.sent ≡ self.old.sent }

@@ -55,7 +55,7 @@ impl Brought {
 
 /// How many bytes of a piece were used, and what they brought beside a packet that was lent.
 #[derive(Clone, Copy, Debug, PartialEq, Eq)]
-pub struct Cut {
+pub struct FedInto {
     pub used: usize,
     pub brought: Brought,
 }
@@ -111,7 +111,7 @@ impl Framer {
         ensures kept { self.new.max_cto ≡ self.old.max_cto }
     {
         let mut packet = Packet::new();
-        let Cut { used, brought } = self.feed_into(piece, &mut packet);
+        let FedInto { used, brought } = self.feed_into(piece, &mut packet);
         Fed {
             used,
             got: brought.with(packet),
@@ -120,7 +120,7 @@ impl Framer {
 
     /// Uses a front of the piece, as `feed` does. The packet of a whole frame stands in the lent
     /// one, which has any bytes otherwise.
-    pub fn feed_into(&mut self, piece: &[u8], packet: &mut Packet) -> Cut
+    pub fn feed_into(&mut self, piece: &[u8], packet: &mut Packet) -> FedInto
         ensures feeds { Feeds self.old.max_cto self.old.held piece.now
             result.used (packets_given (got_in result.brought packet.new)) self.new.held }
         ensures more { result.brought ≡ Brought.More
@@ -131,7 +131,7 @@ impl Framer {
         ensures kept { self.new.max_cto ≡ self.old.max_cto }
     {
         if let Some(used) = self.whole(piece, packet) {
-            return Cut {
+            return FedInto {
                 used,
                 brought: Brought::Packet,
             };
@@ -142,7 +142,7 @@ impl Framer {
                 break;
             }
             let next = self.gather(&piece[cut.used..], packet);
-            cut = Cut {
+            cut = FedInto {
                 used: cut.used + next.used,
                 brought: next.brought,
             };
@@ -173,7 +173,7 @@ impl Framer {
     }
 
     /// Goes on to the end of LEN or of the frame, or to the end of the piece.
-    fn gather(&mut self, piece: &[u8], packet: &mut Packet) -> Cut
+    fn gather(&mut self, piece: &[u8], packet: &mut Packet) -> FedInto
         ensures feeds { Feeds self.old.max_cto self.old.held piece.now
             result.used (packets_given (got_in result.brought packet.new)) self.new.held }
         ensures more { result.brought ≡ Brought.More
@@ -188,7 +188,7 @@ impl Framer {
         let used = missing(&self.held, self.max_cto).min(piece.len());
         let _ = self.held.try_extend_from_slice(&piece[..used]);
         let brought = take_packet(&mut self.held, packet, self.max_cto);
-        Cut { used, brought }
+        FedInto { used, brought }
     }
 }
 

@@ -2,8 +2,8 @@
 ghost use Rattle.std.specs.Prelude.{◌≡◌, ◌≢◌, ◌≤◌, [], ◌++◌, OnErr, OnOk, IfErr, IfOk, length};
 ghost use Rattle.xcp_packet.specs.PacketTrains.{block_packets};
 ghost use Rattle.xcp_slave.specs.AnswerInBytes.{answer_in};
-ghost use Rattle.xcp_framing.specs.Serve.{most_train, packet_of};
-ghost use Rattle.xcp_framing.specs.private.PutOutput.{IsUnput, MovesSoFar};
+ghost use Rattle.xcp_framing.specs.Serve.{most_train, packets_in_answer};
+ghost use Rattle.xcp_framing.specs.private.PutOutput.{IsLeftUnput, MovesSoFar};
 
 use crate::{Batch, End, ServeError};
 use std::alloc::{AllocError, Global};
@@ -19,7 +19,7 @@ pub(crate) fn hand_on<E: End>(batch: &mut Batch, end: &mut E, more: bool) -> Res
     ensures ok { OnOk result (E.put_so_far end.new ≡ E.put_so_far end.old ++ batch.old) }
     ensures back { OnErr result ((E.put_so_far end.new ≡ E.put_so_far end.old) × (batch.old ≢ [])) }
     ensures held { batch.new ≡ [] }
-    ensures err { IfErr result IsUnput }
+    ensures err { IfErr result IsLeftUnput }
     ensures same { E.same end.old end.new }
 {
     if batch.is_empty() {
@@ -60,7 +60,7 @@ fn put_batch<E: End>(batch: Batch, end: &mut E, more: bool) -> Result<(), ServeE
 pub(crate) fn make_room<E: End>(batch: &mut Batch, end: &mut E) -> Result<(), ServeError>
     ensures moves { MovesSoFar result (E.put_so_far end.old) batch.old
         (E.put_so_far end.new) batch.new [] }
-    ensures err { IfErr result IsUnput }
+    ensures err { IfErr result IsLeftUnput }
     ensures same { E.same end.old end.new }
 {
     if batch.has_room() {
@@ -80,11 +80,11 @@ pub(crate) fn gather_told(
     packet: &Packet,
 ) -> Result<u64, ServeError>
     ensures ok { IfOk result (λ n.
-        (batch.new ≡ batch.old ++ packet_of (answer_in told packet.now))
-        × (n ≡ length (packet_of (answer_in told packet.now)))) }
+        (batch.new ≡ batch.old ++ packets_in_answer (answer_in told packet.now))
+        × (n ≡ length (packets_in_answer (answer_in told packet.now)))) }
     ensures most { IfOk result (λ n. n ≤ most_train) }
     ensures back { OnErr result ((batch.new ≡ [])
-        × (packet_of (answer_in told packet.now) ≢ [])) }
+        × (packets_in_answer (answer_in told packet.now) ≢ [])) }
     ensures err { IfErr result (λ e. e ≡ ServeError.NoRoom) }
 {
     match push_told(batch, told, packet) {
@@ -99,10 +99,10 @@ pub(crate) fn gather_told(
 /// Puts the packets of an answer into a batch.
 fn push_told(batch: &mut Batch, told: Told, packet: &Packet) -> Result<u64, AllocError>
     ensures ok { IfOk result (λ n.
-        (batch.new ≡ batch.old ++ packet_of (answer_in told packet.now))
-        × (n ≡ length (packet_of (answer_in told packet.now)))) }
+        (batch.new ≡ batch.old ++ packets_in_answer (answer_in told packet.now))
+        × (n ≡ length (packets_in_answer (answer_in told packet.now)))) }
     ensures most { IfOk result (λ n. n ≤ most_train) }
-    ensures some { OnErr result (packet_of (answer_in told packet.now) ≢ []) }
+    ensures some { OnErr result (packets_in_answer (answer_in told packet.now) ≢ []) }
 {
     match &told {
         Told::Packets(Cut::Whole) => {

@@ -33,7 +33,7 @@ pub use batch::{Batch, Packets};
 pub use desk::Desk;
 pub use end::End;
 pub use frame_writer::FrameWriter;
-pub use framer::{Brought, Cut, Fed, Framer, Got};
+pub use framer::{Brought, Fed, FedInto, Framer, Got};
 pub use law::a_desk_is_never_full;
 pub use noting::Noting;
 pub use passages::{Passages, Whole};

@@ -1,7 +1,7 @@
 //! The packets of a stream, answered one after another, whatever answers them.
 ghost use Rattle.std.specs.Prelude.{◌≡◌, ◌<◌, ◌≤◌, ◌+◌, ◌*◌, ◌^◌, ◌++◌, [], ◌∷◌, ℕ, List, Result, OnOk, IfOk, IfErr, length, Ok, Err};
 ghost use Rattle.xcp_framing.specs.Frames.{frames, rest};
-ghost use Rattle.xcp_framing.specs.CountedCalls.{Counted, EachRead, Gives, is_failed_read, place_of};
+ghost use Rattle.xcp_framing.specs.CountedCalls.{Counted, EachRead, Gives, is_failed_read, stream_place};
 ghost use Rattle.xcp_framing.specs.Serve.{EndsReader, IsReadOf, ReadsWithin};
 ghost use Rattle.xcp_framing.specs.ServeParts.{IsInterruption};
 ghost use Rattle.std.specs.Io.{ReadsAtMost};
@@ -9,7 +9,7 @@ ghost use Rattle.std.specs.Io.KnownBytes.{ReadConsumes};
 ghost use Rattle.xcp_framing.specs.private.KnownPlace.{KnowsPlace};
 ghost use Rattle.xcp_framing.specs.private.MostPackets.{most_packets};
 ghost use Rattle.xcp_framing.specs.private.GrowingOutput.{EndsPiece};
-ghost use Rattle.xcp_framing.specs.private.AnsweredStream.{JoinsHandingOn, JoinsPackets, Stand, Streams, outcome};
+ghost use Rattle.xcp_framing.specs.private.AnsweredStream.{JoinsHandingOn, JoinsPackets, AnswerStand, Streams, outcome};
 
 use crate::{Brought, Framer, Passages, ServeError, Served, Watched};
 use std::io::{self, Read};
@@ -30,7 +30,7 @@ pub(crate) trait Answerer<S, K, O> {
     ghost rests: { K → Type 0 };
 
     /// What answering packets does, one behind another, and the interruption that ended it.
-    ghost answers: { Result (Unit {0}) ServeError → List (List ℕ) → Stand S K O → Stand S K O → Type 0 };
+    ghost answers: { Result (Unit {0}) ServeError → List (List ℕ) → AnswerStand S K O → AnswerStand S K O → Type 0 };
 
     /// What handing on does.
     ghost hands: { Result (Unit {0}) ServeError → K → O → K → O → Type 0 };
@@ -158,7 +158,7 @@ pub(crate) fn answer_stream<A: Answerer<S, K, O>, S, K, O, R: Read, P: Passages<
     requires packets { JoinsPackets A.answers }
     requires handing_on { JoinsHandingOn A.answers A.hands }
     ensures streams { Streams A.answers max_cto result
-        (place_of R.remaining reader.old) (place_of R.remaining reader.new)
+        (stream_place R.remaining reader.old) (stream_place R.remaining reader.new)
         (record { station = station.old; state = state.old; out = out.old })
         (record { station = station.new; state = state.new; out = out.new }) }
     ensures rests { A.rests state.new }

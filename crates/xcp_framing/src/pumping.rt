@@ -1,7 +1,7 @@
 //! The packets that wait in a station, put at an end that has them sent.
 ghost use Rattle.std.specs.Prelude.{◌≡◌, IfErr};
 ghost use Rattle.xcp_framing.specs.Pump.{DrainAgain, Pumps};
-ghost use Rattle.xcp_framing.specs.ServeRefusal.{OnRefusal, Refused};
+ghost use Rattle.xcp_framing.specs.ServeRefusal.{OnRefusal, StationRefused};
 ghost use Rattle.xcp_framing.specs.ServeParts.{IsInterruption};
 ghost use Rattle.xcp_framing.specs.private.HeldPump.{PumpsHeld};
 
@@ -27,7 +27,7 @@ fn pump_turns<S: Station, E: End>(
     ensures kept { E.same end.old end.new }
     ensures stays { S.same station.old station.new }
     ensures stops { IfErr result IsInterruption }
-    ensures refused { OnRefusal result (λ e. Refused S.exchanges S.refuses e DrainAgain
+    ensures refused { OnRefusal result (λ e. StationRefused S.exchanges S.refuses e DrainAgain
         (S.exchanges station.old) station.new) }
 {
     let mut count = 0;
@@ -64,7 +64,7 @@ pub fn pump<S: Station, E: End>(
     ensures kept { E.same end.old end.new }
     ensures stays { S.same station.old station.new }
     ensures stops { IfErr result IsInterruption }
-    ensures refused { OnRefusal result (λ e. Refused S.exchanges S.refuses e DrainAgain
+    ensures refused { OnRefusal result (λ e. StationRefused S.exchanges S.refuses e DrainAgain
         (S.exchanges station.old) station.new) }
 {
     let mut batch = Batch::new(end.alloc());

@@ -3,14 +3,14 @@ ghost use Rattle.std.specs.Prelude.{◌≡◌, ◌≢◌, ◌<◌, ◌≤◌, �
 ghost use Rattle.arrayvec.specs.ArrayVec.{ArrayVec};
 ghost use Rattle.xcp_packet.specs.PacketTrains.{block_packets};
 ghost use Rattle.xcp_slave.specs.AnswerInBytes.{answer_in};
-ghost use Rattle.xcp_framing.specs.CountedCalls.{EachRead, place_of};
+ghost use Rattle.xcp_framing.specs.CountedCalls.{EachRead, stream_place};
 ghost use Rattle.xcp_framing.specs.FrameOutput.{Sends, output};
-ghost use Rattle.xcp_framing.specs.Serve.{AnswersSoFar, EndsReader, IsStreamRead, ReadsWithin, Serves, most_drains, most_train, number_of, packet_of};
+ghost use Rattle.xcp_framing.specs.Serve.{AnswersSoFar, EndsReader, IsStreamRead, ReadsWithin, Serves, most_drains, most_train, number_of, packets_in_answer};
 ghost use Rattle.xcp_framing.specs.private.MostPackets.{most_packets};
 ghost use Rattle.xcp_framing.specs.Wire.{wire_from};
-ghost use Rattle.xcp_framing.specs.ServeRefusal.{AsksNext, DrainsNext, OnRefusal, ReadsNext, Refused};
+ghost use Rattle.xcp_framing.specs.ServeRefusal.{AsksNext, DrainsNext, OnRefusal, ReadsNext, StationRefused};
 ghost use Rattle.xcp_framing.specs.ServeParts.{IsInterruption};
-ghost use Rattle.xcp_framing.specs.private.GrowingOutput.{Grows, DrainsSoFar};
+ghost use Rattle.xcp_framing.specs.private.GrowingOutput.{OutputGrows, DrainsSoFar};
 
 use crate::frame_writer::FrameWriter;
 use crate::passage::{Answerer, answer_stream};
@@ -98,8 +98,8 @@ impl From<StationError> for ServeError {
 
 /// Whether an answer has packets.
 fn has_packets(told: &Told) -> bool
-    ensures some { (packet : ArrayVec ℕ) → result ≡ true → packet_of (answer_in told.now packet) ≢ [] }
-    ensures none { (packet : ArrayVec ℕ) → result ≡ false → packet_of (answer_in told.now packet) ≡ [] }
+    ensures some { (packet : ArrayVec ℕ) → result ≡ true → packets_in_answer (answer_in told.now packet) ≢ [] }
+    ensures none { (packet : ArrayVec ℕ) → result ≡ false → packets_in_answer (answer_in told.now packet) ≡ [] }
 {
     match told {
         Told::Packets(_) => true,
@@ -119,9 +119,9 @@ fn send_told<W: Write>(
     ensures sends { Sends result
         (output (W.contents writer.old.inner) sender.old)
         (output (W.contents writer.new.inner) sender.new)
-        (wire_from sender.old.sent (packet_of (answer_in told.now packet.now))) }
+        (wire_from sender.old.sent (packets_in_answer (answer_in told.now packet.now))) }
     ensures counts { OnOk result (sender.new.sent
-        ≡ sender.old.sent + length (packet_of (answer_in told.now packet.now))) }
+        ≡ sender.old.sent + length (packets_in_answer (answer_in told.now packet.now))) }
     ensures most { OnOk result (sender.new.sent ≤ sender.old.sent + most_train) }
     ensures fine { OnOk result (writer.new.failures ≡ writer.old.failures) }
     ensures dropped { OnErr result (sender.new.held ≡ []) }
@@ -178,7 +178,7 @@ fn drain<W: Write, S: Station>(
     packet: &mut Packet,
 ) -> Result<(), ServeError>
     requires { sender.old.sent + most_train * most_drains < 2 ^ 64 }
-    ensures drains { Grows result (DrainsSoFar result)
+    ensures drains { OutputGrows result (DrainsSoFar result)
         (S.exchanges station.old) (S.exchanges station.new)
         (output (W.contents writer.old.inner) sender.old)
         (output (W.contents writer.new.inner) sender.new)
@@ -189,7 +189,7 @@ fn drain<W: Write, S: Station>(
     ensures write { result ≡ Err ServeError.Write → writer.old.failures < writer.new.failures }
     ensures dropped { result ≡ Err ServeError.Write → sender.new.held ≡ [] }
     ensures no_room { result ≢ Err ServeError.NoRoom }
-    ensures refused { OnRefusal result (λ e. Refused S.exchanges S.refuses e DrainsNext
+    ensures refused { OnRefusal result (λ e. StationRefused S.exchanges S.refuses e DrainsNext
         (S.exchanges station.old) station.new) }
 {
     for _drain in 0..DRAINS {
@@ -211,7 +211,7 @@ fn exchange<W: Write, S: Station>(
     packet: &mut Packet,
 ) -> Result<(), ServeError>
     requires { sender.old.sent + most_packets < 2 ^ 64 }
-    ensures answers { Grows result (AnswersSoFar result (command.now.items ∷ []))
+    ensures answers { OutputGrows result (AnswersSoFar result (command.now.items ∷ []))
         (S.exchanges station.old) (S.exchanges station.new)
         (output (W.contents writer.old.inner) sender.old)
         (output (W.contents writer.new.inner) sender.new)
@@ -223,7 +223,7 @@ fn exchange<W: Write, S: Station>(
     ensures dropped { result ≡ Err ServeError.Write → sender.new.held ≡ [] }
     ensures no_room { result ≢ Err ServeError.NoRoom }
     ensures refused { OnRefusal result (λ e.
-        Refused S.exchanges S.refuses e (AsksNext (command.now.items ∷ []))
+        StationRefused S.exchanges S.refuses e (AsksNext (command.now.items ∷ []))
         (S.exchanges station.old) station.new) }
 {
     let told = station.submit_into(Asked::Command(command.as_slice()), packet)?;
@@ -298,7 +298,7 @@ pub fn serve<R: Read, W: Write, S: Station>(
 ) -> Result<Served, ServeError>
     // The packets of the stream, their exchanges, the text, and how it ended.
     ensures serves { Serves max_cto result
-        (place_of R.remaining reader.old) (place_of R.remaining reader.new)
+        (stream_place R.remaining reader.old) (stream_place R.remaining reader.new)
         (S.exchanges station.old) (S.exchanges station.new)
         (W.contents writer.old.inner) (W.contents writer.new.inner) }
     // Ok and Truncated come at the reader's end.
@@ -317,8 +317,8 @@ pub fn serve<R: Read, W: Write, S: Station>(
     ensures refused { OnRefusal result (λ e.
         ((e ≡ StationError.Memory) × (reader.new ≡ reader.old) × (writer.new ≡ writer.old)
         × (station.new ≡ station.old))
-        ⊎ Refused S.exchanges S.refuses e
-        (ReadsNext max_cto (place_of R.remaining reader.old) (place_of R.remaining reader.new))
+        ⊎ StationRefused S.exchanges S.refuses e
+        (ReadsNext max_cto (stream_place R.remaining reader.old) (stream_place R.remaining reader.new))
         (S.exchanges station.old) station.new) }
 {
     let Ok(mut buffer) = vec![in alloc; 0; READ_SIZE] else {

@@ -1,8 +1,8 @@
 //! A station behind a stream, whose answers' packets are put at an end that has them sent.
 ghost use Rattle.std.specs.Prelude.{◌≡◌, ◌≢◌, ◌<◌, ◌≤◌, ◌+◌, ◌⊎◌, Err};
-ghost use Rattle.xcp_framing.specs.CountedCalls.{EachRead, place_of};
+ghost use Rattle.xcp_framing.specs.CountedCalls.{EachRead, stream_place};
 ghost use Rattle.xcp_framing.specs.Serve.{EndsReader, ReadsWithin};
-ghost use Rattle.xcp_framing.specs.ServeRefusal.{OnRefusal, Refused};
+ghost use Rattle.xcp_framing.specs.ServeRefusal.{OnRefusal, StationRefused};
 ghost use Rattle.xcp_framing.specs.ServeBy.{CommandNext, IsHearingRead, ServesBy};
 
 use crate::gathering::{gather_told, hand_on, make_room};
@@ -81,7 +81,7 @@ pub fn serve_by<R: Read, P: Passages<R>, S: Station, E: End>(
 ) -> Result<Served, ServeError>
     // The packets of the stream, their exchanges, the packets put, and how it ended.
     ensures serves { ServesBy max_cto result
-        (place_of R.remaining reader.old) (place_of R.remaining reader.new)
+        (stream_place R.remaining reader.old) (stream_place R.remaining reader.new)
         (S.exchanges station.old) (S.exchanges station.new) (E.put_so_far end.old) (E.put_so_far end.new) }
     ensures kept { E.same end.old end.new }
     ensures stays { S.same station.old station.new }
@@ -91,8 +91,8 @@ pub fn serve_by<R: Read, P: Passages<R>, S: Station, E: End>(
     ensures refused { OnRefusal result (λ e.
         ((e ≡ StationError.Memory) × (reader.new ≡ reader.old)
         × (station.new ≡ station.old) × (end.new ≡ end.old))
-        ⊎ Refused S.exchanges S.refuses e
-        (CommandNext max_cto (place_of R.remaining reader.old) (place_of R.remaining reader.new))
+        ⊎ StationRefused S.exchanges S.refuses e
+        (CommandNext max_cto (stream_place R.remaining reader.old) (stream_place R.remaining reader.new))
         (S.exchanges station.old) station.new) }
 {
     let Ok(mut buffer) = vec![in alloc; 0; READ_SIZE] else {

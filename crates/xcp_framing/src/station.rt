@@ -8,7 +8,7 @@ ghost use Rattle.xcp_framing.specs.declared.station.StationError.{StationError};
 ghost use Rattle.xcp_framing.specs.Pump.{DrainAgain, DrainsInto};
 ghost use Rattle.xcp_framing.specs.Serve.{most_train};
 ghost use Rattle.xcp_framing.specs.ServeParts.{IsInterruption};
-ghost use Rattle.xcp_framing.specs.ServeRefusal.{OnRefusal, Refused};
+ghost use Rattle.xcp_framing.specs.ServeRefusal.{OnRefusal, StationRefused};
 
 use crate::gathering::gather_told;
 use crate::{Batch, ServeError};
@@ -87,7 +87,7 @@ pub trait Station {
         ensures drains { DrainsInto most result (exchanges self.old) (exchanges self.new) batch.old batch.new }
         ensures most { IfOk result (λ n. n ≤ most_train * most) }
         ensures stops { IfErr result IsInterruption }
-        ensures refused { OnRefusal result (λ e. Refused exchanges refuses e DrainAgain (exchanges self.old) self.new) }
+        ensures refused { OnRefusal result (λ e. StationRefused exchanges refuses e DrainAgain (exchanges self.old) self.new) }
         ensures stays { same self.old self.new }
     {
         let mut count = 0;
@@ -115,7 +115,7 @@ pub trait Station {
         ensures stays { same self.old self.new }
     {
         let mut packet = Packet::new();
-        let told = self.submit_into(request.asked(), &mut packet)?;
+        let told = self.submit_into(request.lent(), &mut packet)?;
         Ok(told.with(packet))
     }
 

@@ -3,7 +3,7 @@ ghost use Rattle.std.specs.Prelude.{◌≡◌, ◌+◌, ◌++◌, ◌∷◌, [],
 ghost use Rattle.std.specs.Io.{ReadsAtMost, WritesAtMost};
 ghost use Rattle.std.specs.Io.KnownBytes.{Appends, ReadConsumes, WriteAppends};
 ghost use Rattle.xcp_framing.specs.Prefix.{AppendsFront};
-ghost use Rattle.xcp_framing.specs.CountedCalls.{Counted, Gives, is_failed_read, is_failed_write, place_of};
+ghost use Rattle.xcp_framing.specs.CountedCalls.{Counted, Gives, is_failed_read, is_failed_write, stream_place};
 
 use crate::passages::Passages;
 use crate::record::{Piece, Record};
@@ -66,7 +66,7 @@ impl<T> Watched<T> {
 impl<R: Read> Watched<R> {
     /// Tells the inner reader whether its next read begins inside a frame. That is no read.
     pub fn stand<P: Passages<R>>(&mut self, passages: &P, inside: bool)
-        ensures place { place_of R.remaining self.new ≡ place_of R.remaining self.old }
+        ensures place { stream_place R.remaining self.new ≡ stream_place R.remaining self.old }
         ensures calls { (self.new.calls ≡ self.old.calls) × (self.new.failures ≡ self.old.failures) }
         ensures asked { self.new.asked ≡ self.old.asked }
         ensures knows { P.Passages.knows self.new.inner inside }
@@ -76,7 +76,7 @@ impl<R: Read> Watched<R> {
 
     /// Whether another passage of its stream begins behind the end that was just read. That is no read.
     pub fn begin_again<P: Passages<R>>(&mut self, passages: &P) -> bool
-        ensures place { place_of R.remaining self.new ≡ place_of R.remaining self.old }
+        ensures place { stream_place R.remaining self.new ≡ stream_place R.remaining self.old }
         ensures calls { (self.new.calls ≡ self.old.calls) × (self.new.failures ≡ self.old.failures) }
         ensures asked { self.new.asked ≡ self.old.asked }
         ensures more { result ≡ true → P.Passages.goes_on }

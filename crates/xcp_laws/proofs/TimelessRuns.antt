@@ -23,7 +23,7 @@ use Rattle.xcp_daq.specs.declared.DaqElement.{DaqElement}
 use Rattle.xcp_daq.specs.declared.Element.{Element}
 use Rattle.xcp_daq.specs.declared.Pointer.{Pointer}
 use Rattle.xcp_daq.specs.DaqLists.{DaqList, DaqValue, has_stamp, first_pid, list_at, no_list}
-use Rattle.xcp_daq.specs.Configuring.{all_or_none, elements_in, moved_by, unless, write_daq_after, write_daq_refusal, write_daqs, written_at}
+use Rattle.xcp_daq.specs.Configuring.{all_or_none, elements_in, moved_by, unless, write_daq_after, write_daq_refusal, write_daqs, entry_written}
 use Rattle.xcp_daq.specs.Sample.{counted, due, list_packets, sampled, stamped_packets}
 use Rattle.xcp_daq.specs.Starting.{selected, started, stopped, synchronised}
 use Rattle.xcp_slave.specs.declared.Exchange.{Exchange}
@@ -154,7 +154,7 @@ plain-at (l ∷ lists) (suc i) h = plain-at lists i (All-tail IsPlain l lists h)
 plain-set : (d : DaqValue) (i : ℕ) (l : DaqList) → All IsPlain d.lists → l.stamp ≡ (list_at d i).stamp → All IsPlain (slice_set d.lists i l)
 plain-set d i l h e = All-set IsPlain d.lists i l (e ∙ plain-at d.lists i h) h
 
-plain-written : (o : Option Pointer) (e : Element) (d : DaqValue) → All IsPlain d.lists → All IsPlain (written_at o e d).lists
+plain-written : (o : Option Pointer) (e : Element) (d : DaqValue) → All IsPlain d.lists → All IsPlain (entry_written o e d).lists
 plain-written None e d h = h
 plain-written (Some p) e d h = plain-set d p.list _ h refl
 

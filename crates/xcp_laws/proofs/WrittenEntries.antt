@@ -11,7 +11,7 @@ use Rattle.xcp_packet.specs.declared.Code.TheVariants.{DaqActive, ModeNotValid, 
 use Rattle.xcp_packet.specs.declared.Stamp.{Stamp}
 use Rattle.xcp_packet.specs.declared.Stamp.TheVariants.{Without}
 use Rattle.xcp_memory.specs.Layout.{LayoutValue}
-use Rattle.xcp_daq.specs.Configuring.{entry_by, is_mode, moved_by, moved_on, stamp_asked, written_at}
+use Rattle.xcp_daq.specs.Configuring.{entry_by, is_mode, moved_by, moved_on, stamp_asked, entry_written}
 use Rattle.xcp_daq.specs.DaqInvariant.{IsPointer, IsPointerOf}
 use Rattle.xcp_daq.specs.DaqLists.{DaqList, DaqValue, has_stamp, lacks_list, list_at, no_list, odt_at}
 use Rattle.xcp_daq.specs.declared.Element.{Element}
@@ -104,13 +104,13 @@ on-none d p past = ends (nat_lt (p.entry + 1) (length (odt_at d p.list p.odt))) 
 
 -- the lists once the entry at a pointer is written
 written : DaqValue → Pointer → Element → DaqValue
-written d p e = written_at (Some p) e d
+written d p e = entry_written (Some p) e d
 
 after-write : (v w : SlaveValue) (p : Pointer) (offset size extension address : ℕ) (bytes : List ℕ) → v.daq.pointer ≡ Some p → Accepts v (commands.WriteDaq offset size extension address) bytes w → w.daq ≡ written v.daq p (record { size = size; address = address })
 unfolding written
 after-write v w p offset size extension address bytes e h =
     ap (λ (x : SlaveValue). x.daq) (accepted (commands.WriteDaq offset size extension address) v bytes w h).after
-    ∙ ap (λ (o : Option Pointer). written_at o (record { size = size; address = address }) v.daq) e
+    ∙ ap (λ (o : Option Pointer). entry_written o (record { size = size; address = address }) v.daq) e
 
 -- the pointer of a slave names an entry that there is
 names-entry : (d : DaqValue) (p : Pointer) (o : Option Pointer) → o ≡ Some p → IsPointerOf d o → IsPointer d p
@@ -173,7 +173,7 @@ bare l = record l { odts = [] }
 same-bare : (a b : DaqList) → bare a ≡ bare b → a ≡ record b { odts = a.odts }
 same-bare a b h = ap (λ (l : DaqList). record l { odts = a.odts }) h
 
-written-lists : (o : Option Pointer) (d : DaqValue) (e : Element) (i : ℕ) → bare (list_at (written_at o e d) i) ≡ bare (list_at d i)
+written-lists : (o : Option Pointer) (d : DaqValue) (e : Element) (i : ℕ) → bare (list_at (entry_written o e d) i) ≡ bare (list_at d i)
 written-lists None d e i = refl
 written-lists (Some p) d e i = set-keeps bare d.lists p.list i _ no_list refl
 

@@ -18,7 +18,7 @@ use Rattle.xcp_locked.specs.Journal.{entry, exchanges}
 use Rattle.xcp_locked.specs.LockedSlave.{IsReached}
 use Rattle.xcp_locked.specs.Publications.{Publication, publication, image_of, images_of, Published}
 use Rattle.xcp_locked.specs.PublishingCalls.{AreAllImages, AreImages}
-use Rattle.xcp_locked.specs.private.OfferedImages.{IsKept, Offers}
+use Rattle.xcp_locked.specs.private.OfferedImages.{IsOfferKept, Offers}
 use Rattle.xcp_locked.proofs.JournalLemmas.{exchanges_snoc}
 use Rattle.xcp_locked.proofs.PublicationLemmas.{exchanges_length, published_first, published_other, published_same}
 use Rattle.xcp_locked.proofs.PublicationLaws.{published_end}
@@ -52,7 +52,8 @@ pub record Turned (p q : Publisher) : Type 0 where
   pub places : q.places.items ≡ 0 ∷ []
   pub last : q.last.items ≡ p.last.items
 
-pub kept_cut : {size : ℕ} (bank : BankId) (v w base : SlaveValue) (xs : List Exchange) (none : List Entry) (p q : Publisher) → Run v xs w → IsKept size bank v xs w p → Turned p q → none ≡ [] → w ≡ base → IsKept size bank base (exchanges none) w q
+-- what a publisher keeps of a chapter that ends, it keeps of the next one, without a call yet, once it is turned to that
+pub kept_cut : {size : ℕ} (bank : BankId) (v w base : SlaveValue) (xs : List Exchange) (none : List Entry) (p q : Publisher) → Run v xs w → IsOfferKept size bank v xs w p → Turned p q → none ≡ [] → w ≡ base → IsOfferKept size bank base (exchanges none) w q
 kept_cut {size} bank v w base xs none p q run k t empty is =
     let e = published_end v xs w k.list k.published run in
     let list : images_of k.list ≡ images_of e.0 ++ image_of w ∷ [] = ap images_of e.2 ∙ map-append (λ (z : Publication). z.image) e.0 (publication e.1 (image_of w) ∷ []) in
@@ -77,7 +78,7 @@ kept_cut {size} bank v w base xs none p q run k t empty is =
     }
 
 -- a chapter publishes at most as often as it has calls
-pub few_more : {size : ℕ} (bank : BankId) (v w : SlaveValue) (es : List Entry) (p : Publisher) (before : ℕ) → IsKept size bank v (exchanges es) w p → p.first ≤ before → p.first + vec_len p.places - 1 ≤ before + length es
+pub few_more : {size : ℕ} (bank : BankId) (v w : SlaveValue) (es : List Entry) (p : Publisher) (before : ℕ) → IsOfferKept size bank v (exchanges es) w p → p.first ≤ before → p.first + vec_len p.places - 1 ≤ before + length es
 few_more {size} bank v w es p before k low =
     let places : length p.places.items ≡ length k.list = ap length k.places ∙ places_length k.list in
     let room : length p.places.items ≡ vec_len p.places = sym p.places.ok.0 in
@@ -93,6 +94,7 @@ images_on v xs w x u images more r a (inr s) h =
     let place = length xs + 1 in
     (h.0 ++ publication place (image_of u) ∷ [], published_other v xs w x u place h.0 r a refl s.0 h.1, s.1 ∙ (ap (λ z. z ++ image_of u ∷ []) h.2 ∙ sym (map-append (λ (z : Publication). z.image) h.0 (publication place (image_of u) ∷ []))))
 
+-- of all calls since the opening, one more publishes the image behind it where that differs from the one before it
 pub all_on : (l : LayoutValue) (n : ℕ) (base w : SlaveValue) (xs : List Exchange) (x : Exchange) (u : SlaveValue) (images more : List (List ℕ)) → Run base xs w → Answers w x.request x.answer u
     → ((image_of u ≡ image_of w) × (more ≡ images)) ⊎ ((image_of u ≢ image_of w) × (more ≡ images ++ image_of u ∷ [])) → AreAllImages l n base xs images → AreAllImages l n base (xs ++ x ∷ []) more
 all_on l n base w xs x u images more r a is h = record {

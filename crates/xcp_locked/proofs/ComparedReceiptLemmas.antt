@@ -4,12 +4,12 @@ use Rattle.std.specs.Prelude.{Option, Some, None}
 use Rattle.std.specs.List.{slice_get}
 use Rattle.xcp_locked.specs.declared.receipt.Receipt.{Receipt}
 use Rattle.xcp_locked.specs.SettledReceipts.{compared, receipts_for}
-use Rattle.xcp_locked.specs.private.PlacedExchanges.{ahead}
+use Rattle.xcp_locked.specs.private.PlacedExchanges.{receipts_ahead}
 
 -- So many of them were met; the next one, if there is one, and those behind it are left.
 pub record IsAt (all : List Receipt) (met : ℕ) (next : Option Receipt) (rest : List Receipt) : Type 0 where
   pub few : met ≤ length all
-  pub left : drop met all ≡ ahead next rest
+  pub left : drop met all ≡ receipts_ahead next rest
 
 drop_get : {X : Type 0} (l : List X) (k : ℕ) → slice_get l k ≡ slice_get (drop k l) 0
 drop_get [] zero = refl
@@ -17,7 +17,7 @@ drop_get [] (suc k) = refl
 drop_get (x ∷ l) zero = refl
 drop_get (x ∷ l) (suc k) = drop_get l k
 
-first_ahead : (next : Option Receipt) (rest : List Receipt) → slice_get (ahead next rest) 0 ≡ next
+first_ahead : (next : Option Receipt) (rest : List Receipt) → slice_get (receipts_ahead next rest) 0 ≡ next
 first_ahead None rest = refl
 first_ahead (Some r) rest = refl
 
@@ -26,7 +26,7 @@ pub stands : (all : List Receipt) (met : ℕ) (next : Option Receipt) (rest : Li
 stands all met next rest is = drop_get all met ∙ (ap (λ (l : List Receipt). slice_get l 0) is.left ∙ first_ahead next rest)
 
 -- where none was met yet
-pub at_first : (all : List Receipt) (next : Option Receipt) (rest : List Receipt) → all ≡ ahead next rest → IsAt all 0 next rest
+pub at_first : (all : List Receipt) (next : Option Receipt) (rest : List Receipt) → all ≡ receipts_ahead next rest → IsAt all 0 next rest
 at_first all next rest is = record { few = omega arith; left = is }
 
 nil_cons : {X : Type 0} {y : X} {ys : List X} → [] ≡ y ∷ ys → ⊥
@@ -39,7 +39,7 @@ drop_one (y ∷ l) more zero x h = (omega arith, cc)
 drop_one (y ∷ l) more (suc k) x h = let d = drop_one l more k x h in let less = d.0 in let e : suc k + 1 ≡ suc (k + 1) = omega arith in (omega (arith, less), ap (λ (n : ℕ). drop n (y ∷ l)) e ∙ d.1)
 
 -- where the next one was met
-pub at_next : (all : List Receipt) (met : ℕ) (r : Receipt) (rest : List Receipt) (next : Option Receipt) (behind : List Receipt) → IsAt all met (Some r) rest → rest ≡ ahead next behind → IsAt all (met + 1) next behind
+pub at_next : (all : List Receipt) (met : ℕ) (r : Receipt) (rest : List Receipt) (next : Option Receipt) (behind : List Receipt) → IsAt all met (Some r) rest → rest ≡ receipts_ahead next behind → IsAt all (met + 1) next behind
 at_next all met r rest next behind is so = let d = drop_one all rest met r is.left in record { few = d.0; left = d.1 ∙ so }
 
 -- where there is a next one, not all were met

@@ -5,18 +5,18 @@ use Rattle.std.specs.Prelude.{Some}
 use Rattle.xcp_memory.specs.Layout.{LayoutValue}
 use Rattle.xcp_slave.specs.SlaveValue.{SlaveValue, opening}
 use Rattle.xcp_locked.specs.Chapters.{AreJoined, Follows, IsFirstGap, LeadTo}
-use Rattle.xcp_locked.specs.private.NoChapter.{no_chapter}
+use Rattle.xcp_locked.specs.private.NoChapter.{empty_chapter}
 use Rattle.xcp_locked.specs.LockedSlave.{ChapterValue}
 use Rattle.xcp_locked.proofs.JoiningLemmas.{AreFirst, end_before, take_whole}
 use Rattle.xcp_locked.proofs.TallyLemmas.{none≢some, some_same}
 
 -- the first k chapters end where the one before number k ends
-end_there : (l : LayoutValue) (cs : List ChapterValue) (k : ℕ) → 0 < k → end_before l cs k ≡ (get_or cs (k - 1) no_chapter).last
+end_there : (l : LayoutValue) (cs : List ChapterValue) (k : ℕ) → 0 < k → end_before l cs k ≡ (get_or cs (k - 1) empty_chapter).last
 end_there l cs zero some = absurd (omega (arith, some))
-end_there l cs (suc k) some = let e : suc k - 1 ≡ k = omega arith in ap (λ (j : ℕ). (get_or cs j no_chapter).last) (sym e)
+end_there l cs (suc k) some = let e : suc k - 1 ≡ k = omega arith in ap (λ (j : ℕ). (get_or cs j empty_chapter).last) (sym e)
 
 -- what begins elsewhere doesn't follow
-pub begins_elsewhere : (l : LayoutValue) (cs : List ChapterValue) (k calls number before : ℕ) (base : SlaveValue) → 0 < k → base ≢ (get_or cs (k - 1) no_chapter).last → ¬ Follows k calls (end_before l cs k) number before base
+pub begins_elsewhere : (l : LayoutValue) (cs : List ChapterValue) (k calls number before : ℕ) (base : SlaveValue) → 0 < k → base ≢ (get_or cs (k - 1) empty_chapter).last → ¬ Follows k calls (end_before l cs k) number before base
 begins_elsewhere l cs k calls number before base some other f = other (f.2 ∙ end_there l cs k some)
 
 -- a chapter of the list doesn't follow those before it

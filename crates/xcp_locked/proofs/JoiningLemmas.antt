@@ -8,7 +8,7 @@ use Rattle.xcp_slave.specs.Run.{Run}
 use Rattle.xcp_slave.specs.SlaveValue.{SlaveValue, opening}
 use Rattle.xcp_trace.specs.declared.Entry.{Entry}
 use Rattle.xcp_locked.specs.Chapters.{AreJoined, Follows, IsFirstGap, LeadTo, entries_of}
-use Rattle.xcp_locked.specs.private.NoChapter.{no_chapter}
+use Rattle.xcp_locked.specs.private.NoChapter.{empty_chapter}
 use Rattle.xcp_locked.specs.Journal.{exchanges}
 use Rattle.xcp_locked.specs.LockedSlave.{ChapterValue, IsReached}
 use Rattle.xcp_locked.proofs.ChapterLemmas.{run_joined}
@@ -16,7 +16,7 @@ use Rattle.xcp_locked.proofs.ChapterLemmas.{run_joined}
 -- where the first k chapters end
 abbrev pub end_before : LayoutValue → List ChapterValue → ℕ → SlaveValue
 end_before l cs zero = opening l
-end_before l cs (suc k) = (get_or cs k no_chapter).last
+end_before l cs (suc k) = (get_or cs k empty_chapter).last
 
 -- nothing was called before the opening
 pub reached_none : (l : LayoutValue) (n : ℕ) (v : SlaveValue) → n ≡ 0 → IsReached l n v → v ≡ opening l
@@ -32,6 +32,7 @@ pub record AreFirst (l : LayoutValue) (cs : List ChapterValue) (k calls : ℕ) :
   pub count : length (entries_of (take k cs)) ≡ calls
   pub run : Run (opening l) (exchanges (entries_of (take k cs))) (end_before l cs k)
 
+-- the first 0 chapters are one run of no calls from the opening
 pub first_none : (l : LayoutValue) (cs : List ChapterValue) → AreFirst l cs 0 0
 first_none l cs = record { lead = (refl, refl, refl); count = refl; run = refl }
 
@@ -43,21 +44,21 @@ entries_more : (cs : List ChapterValue) (c : ChapterValue) → entries_of (cs ++
 entries_more [] c = append-nil c.entries
 entries_more (e ∷ cs) c = ap (λ z. e.entries ++ z) (entries_more cs c) ∙ sym (append_assoc e.entries (entries_of cs) c.entries)
 
-take_more : (cs : List ChapterValue) (k : ℕ) → k < length cs → take (suc k) cs ≡ take k cs ++ get_or cs k no_chapter ∷ []
+take_more : (cs : List ChapterValue) (k : ℕ) → k < length cs → take (suc k) cs ≡ take k cs ++ get_or cs k empty_chapter ∷ []
 take_more [] k h = absurd (omega (arith, h))
 take_more (c ∷ cs) zero h = refl
 take_more (c ∷ cs) (suc k) h = ap (λ (z : List ChapterValue). c ∷ z) (take_more cs k (omega (arith, h)))
 
 -- where a chapter begins that follows the first k
-begins_at : (l : LayoutValue) (cs : List ChapterValue) (k n : ℕ) (v : SlaveValue) → IsReached l n v → (k ≡ 0 → n ≡ 0) → (0 < k → v ≡ (get_or cs (k - 1) no_chapter).last) → v ≡ end_before l cs k
+begins_at : (l : LayoutValue) (cs : List ChapterValue) (k n : ℕ) (v : SlaveValue) → IsReached l n v → (k ≡ 0 → n ≡ 0) → (0 < k → v ≡ (get_or cs (k - 1) empty_chapter).last) → v ≡ end_before l cs k
 begins_at l cs zero n v r first later = reached_none l n v (first refl) r
-begins_at l cs (suc k) n v r first later = let e : suc k - 1 ≡ k = omega arith in later (omega arith) ∙ ap (λ (j : ℕ). (get_or cs j no_chapter).last) e
+begins_at l cs (suc k) n v r first later = let e : suc k - 1 ≡ k = omega arith in later (omega arith) ∙ ap (λ (j : ℕ). (get_or cs j empty_chapter).last) e
 
 none_first : (l : LayoutValue) (cs : List ChapterValue) (k calls : ℕ) → AreFirst l cs k calls → k ≡ 0 → calls ≡ 0
 none_first l cs k calls a e = sym a.count ∙ ap (λ (j : ℕ). length (entries_of (take j cs))) e
 
 -- one more
-pub first_more : (l : LayoutValue) (cs : List ChapterValue) (k calls : ℕ) (c : ChapterValue) → AreFirst l cs k calls → k < length cs → c ≡ get_or cs k no_chapter → c.number ≡ k → c.before ≡ calls → (0 < k → c.base ≡ (get_or cs (k - 1) no_chapter).last) → Run c.base (exchanges c.entries) c.last → IsReached l c.before c.base → AreFirst l cs (k + 1) (c.before + length c.entries)
+pub first_more : (l : LayoutValue) (cs : List ChapterValue) (k calls : ℕ) (c : ChapterValue) → AreFirst l cs k calls → k < length cs → c ≡ get_or cs k empty_chapter → c.number ≡ k → c.before ≡ calls → (0 < k → c.base ≡ (get_or cs (k - 1) empty_chapter).last) → Run c.base (exchanges c.entries) c.last → IsReached l c.before c.base → AreFirst l cs (k + 1) (c.before + length c.entries)
 first_more l cs k calls c a low is number before follows run reached =
     let base : c.base ≡ end_before l cs k = begins_at l cs k c.before c.base reached (λ e. before ∙ none_first l cs k calls a e) follows in
     let more : take (suc k) cs ≡ take k cs ++ c ∷ [] = take_more cs k low ∙ ap (λ (x : ChapterValue). take k cs ++ x ∷ []) (sym is) in
@@ -79,12 +80,13 @@ first_more l cs k calls c a low is number before follows run reached =
           (subst (λ (z : List Exchange). Run (opening l) z c.last) (sym (ap exchanges all ∙ map-append (λ (e : Entry). e.exchange) (entries_of (take k cs)) c.entries)) together);
     })
 
+-- the first chapters, as many as there are, are all of them
 pub take_whole : (cs : List ChapterValue) → take (length cs) cs ≡ cs
 take_whole [] = refl
 take_whole (c ∷ cs) = ap (λ (z : List ChapterValue). c ∷ z) (take_whole cs)
 
 -- all of them, and the open one
-pub joined_all : (l : LayoutValue) (cs : List ChapterValue) (k calls number before : ℕ) (base : SlaveValue) → AreFirst l cs k calls → k ≡ length cs → number ≡ k → before ≡ calls → (0 < k → base ≡ (get_or cs (k - 1) no_chapter).last) → IsReached l before base → AreJoined l cs number before base
+pub joined_all : (l : LayoutValue) (cs : List ChapterValue) (k calls number before : ℕ) (base : SlaveValue) → AreFirst l cs k calls → k ≡ length cs → number ≡ k → before ≡ calls → (0 < k → base ≡ (get_or cs (k - 1) empty_chapter).last) → IsReached l before base → AreJoined l cs number before base
 joined_all l cs k calls number before base a all is same follows reached =
     let at : base ≡ end_before l cs k = begins_at l cs k before base reached (λ e. same ∙ none_first l cs k calls a e) follows in
     let whole : take k cs ≡ cs = ap (λ (n : ℕ). take n cs) all ∙ take_whole cs in
@@ -99,9 +101,9 @@ joined_all l cs k calls number before base a all is same follows reached =
     }
 
 -- where the first chapters end, if there is one
-pub end_is : (l : LayoutValue) (cs : List ChapterValue) (k : ℕ) → 0 < k → end_before l cs k ≡ (get_or cs (k - 1) no_chapter).last
+pub end_is : (l : LayoutValue) (cs : List ChapterValue) (k : ℕ) → 0 < k → end_before l cs k ≡ (get_or cs (k - 1) empty_chapter).last
 end_is l cs zero h = absurd (omega (arith, h))
-end_is l cs (suc k) h = let e : suc k - 1 ≡ k = omega arith in ap (λ (j : ℕ). (get_or cs j no_chapter).last) (sym e)
+end_is l cs (suc k) h = let e : suc k - 1 ≡ k = omega arith in ap (λ (j : ℕ). (get_or cs j empty_chapter).last) (sym e)
 
 got : (cs : List ChapterValue) (k : ℕ) (d : ChapterValue) → k < length cs → slice_get cs k ≡ Some (get_or cs k d)
 got [] k d h = absurd (omega (arith, h))

@@ -14,7 +14,7 @@ use Rattle.xcp_trace.specs.declared.Entry.{Entry}
 use Rattle.xcp_locked.specs.declared.publisher.Publisher.{Publisher}
 use Rattle.xcp_locked.specs.Journal.{entry, exchanges}
 use Rattle.xcp_locked.specs.Publications.{Publication, publication, image_of, images_of, LeadsThrough, Changes, Published}
-use Rattle.xcp_locked.specs.private.OfferedImages.{IsKept, Offers}
+use Rattle.xcp_locked.specs.private.OfferedImages.{IsOfferKept, Offers}
 use Rattle.xcp_locked.proofs.JournalLemmas.{exchanges_snoc}
 
 -- the image of the last of these states, behind one with the image `before`
@@ -80,7 +80,7 @@ pub published_first : (v : SlaveValue) → Published v [] (publication 0 (image_
 published_first v = record { states = []; run = refl; changed = []; changes = refl; is = refl }
 
 -- before any call
-pub kept_first : (size : ℕ) (bank : BankId) (base : SlaveValue) (es : List Entry) (v : SlaveValue) (p : Publisher) → es ≡ [] → v ≡ base → p.writer ≡ new_writer bank (image_of v) → p.places.items ≡ 0 ∷ [] → p.last.items ≡ image_of v → p.first ≡ 0 → image_bytes bank ≡ size → IsKept size bank base (exchanges es) v p
+pub kept_first : (size : ℕ) (bank : BankId) (base : SlaveValue) (es : List Entry) (v : SlaveValue) (p : Publisher) → es ≡ [] → v ≡ base → p.writer ≡ new_writer bank (image_of v) → p.places.items ≡ 0 ∷ [] → p.last.items ≡ image_of v → p.first ≡ 0 → image_bytes bank ≡ size → IsOfferKept size bank base (exchanges es) v p
 kept_first size bank base es v p none is writer places last first sized = record {
   list = publication 0 (image_of v) ∷ [];
   published = subst (λ (z : SlaveValue). Published z (exchanges es) (publication 0 (image_of v) ∷ [])) is (subst (λ (z : List Entry). Published v (exchanges z) (publication 0 (image_of v) ∷ [])) (sym none) (published_first v));
@@ -100,7 +100,7 @@ pub exchanges_length : (es : List Entry) → length (exchanges es) ≡ length es
 exchanges_length es = length-map es (λ (e : Entry). e.exchange)
 
 -- the exchange x led from w to u, and u's image was offered
-kept_on : {size : ℕ} (bank : BankId) (v : SlaveValue) (xs : List Exchange) (w : SlaveValue) (x : Exchange) (u : SlaveValue) (n : ℕ) (p q r : Publisher) → Run v xs w → Answers w x.request x.answer u → n ≡ length xs + 1 → q.writer ≡ p.writer → q.places.items ≡ p.places.items → q.last.items ≡ p.last.items → q.first ≡ p.first → Offers n (image_of u) q r → IsKept size bank v xs w p → IsKept size bank v (xs ++ x ∷ []) u r
+kept_on : {size : ℕ} (bank : BankId) (v : SlaveValue) (xs : List Exchange) (w : SlaveValue) (x : Exchange) (u : SlaveValue) (n : ℕ) (p q r : Publisher) → Run v xs w → Answers w x.request x.answer u → n ≡ length xs + 1 → q.writer ≡ p.writer → q.places.items ≡ p.places.items → q.last.items ≡ p.last.items → q.first ≡ p.first → Offers n (image_of u) q r → IsOfferKept size bank v xs w p → IsOfferKept size bank v (xs ++ x ∷ []) u r
 kept_on {size} bank v xs w x u n p q r run a is writer places last same o k =
     let first : r.first ≡ p.first = o.first ∙ same in
     let more : length (xs ++ x ∷ []) ≡ length xs + 1 = length-append xs (x ∷ []) in
@@ -138,8 +138,8 @@ kept_on {size} bank v xs w x u n p q r run a is writer places last same o k =
     ]
 
 -- the same, of a journal that is said to be one call longer
-pub kept_goes_on : {size : ℕ} (bank : BankId) (v : SlaveValue) (es more : List Entry) (w : SlaveValue) (by : ℕ) (q : Request) (a : Answer) (u : SlaveValue) (n : ℕ) (old mid new : Publisher) → more ≡ es ++ entry by q a ∷ [] → Run v (exchanges es) w → Answers w q a u → n ≡ length es + 1 → mid.writer ≡ old.writer → mid.places.items ≡ old.places.items → mid.last.items ≡ old.last.items → mid.first ≡ old.first → Offers n (image_of u) mid new → IsKept size bank v (exchanges es) w old → IsKept size bank v (exchanges more) u new
+pub kept_goes_on : {size : ℕ} (bank : BankId) (v : SlaveValue) (es more : List Entry) (w : SlaveValue) (by : ℕ) (q : Request) (a : Answer) (u : SlaveValue) (n : ℕ) (old mid new : Publisher) → more ≡ es ++ entry by q a ∷ [] → Run v (exchanges es) w → Answers w q a u → n ≡ length es + 1 → mid.writer ≡ old.writer → mid.places.items ≡ old.places.items → mid.last.items ≡ old.last.items → mid.first ≡ old.first → Offers n (image_of u) mid new → IsOfferKept size bank v (exchanges es) w old → IsOfferKept size bank v (exchanges more) u new
 kept_goes_on {size} bank v es more w by q a u n old mid new is run step place writer places last first o k =
     let len = exchanges_length es in
-    subst (λ z. IsKept size bank v z u new) (sym (ap exchanges is ∙ exchanges_snoc es (entry by q a)))
+    subst (λ z. IsOfferKept size bank v z u new) (sym (ap exchanges is ∙ exchanges_snoc es (entry by q a)))
     (kept_on bank v (exchanges es) w (record { request = q; answer = a }) u n old mid new run step (omega (arith, place, len)) writer places last first o k)

@@ -20,6 +20,7 @@ member_at [] n d low = absurd (omega arith)
 member_at (p ∷ list) zero d low = refl
 member_at (p ∷ list) (suc n) d low = member_at list n d (omega arith)
 
+-- there are as many images as publications
 pub images_length : (list : List Publication) → length (images_of list) ≡ length list
 images_length list = length-map list (λ (p : Publication). p.image)
 

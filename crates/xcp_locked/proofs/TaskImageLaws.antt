@@ -15,7 +15,7 @@ use Rattle.xcp_memory.specs.Layout.{LayoutValue}
 use Rattle.xcp_slave.specs.declared.Request.{Request}
 use Rattle.xcp_locked.specs.declared.receipt.Receipt.{Receipt}
 use Rattle.xcp_locked.specs.TaskImages.{IsTold, Took, is_look, looks, TookImage}
-use Rattle.xcp_locked.specs.Tasks.{Duty, IsFresh, closing_of, event_of}
+use Rattle.xcp_locked.specs.Tasks.{Duty, IsFresh, closing_of, cycle_event}
 use Rattle.xcp_locked.specs.private.TaskSteps.{Adds}
 use Rattle.xcp_locked.proofs.TallyLemmas.{none≢some, some_same}
 
@@ -144,7 +144,7 @@ took_told layout caller event old new a b c x y told begins took =
     }
 
 -- the image that is taken then isn't older than the event
-pub is_fresh : (layout : LayoutValue) (p : Duty) (k caller : ℕ) (was mid now : List Receipt) (a b c : ReaderEnd) → IsTold layout caller (event_of p k) was mid a b → Adds (closing_of p) mid now → AllBegin (b.seen ∷ b.past) c.seen → ((number : ℕ) → HoldsNumber c number → length b.seen ≤ number + 1) → IsFresh layout p k caller now c
+pub is_fresh : (layout : LayoutValue) (p : Duty) (k caller : ℕ) (was mid now : List Receipt) (a b c : ReaderEnd) → IsTold layout caller (cycle_event p k) was mid a b → Adds (closing_of p) mid now → AllBegin (b.seen ∷ b.past) c.seen → ((number : ℕ) → HoldsNumber c number → length b.seen ≤ number + 1) → IsFresh layout p k caller now c
 is_fresh layout p k caller was mid now a b c told closing begins newest = record {
   front = was;
   event = told.call;

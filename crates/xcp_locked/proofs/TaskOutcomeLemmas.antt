@@ -8,7 +8,7 @@ use Rattle.xcp_locked.specs.declared.tasks.TaskError.TheVariants as faults
 use Rattle.xcp_locked.specs.declared.tasks.Done.{Done}
 use Rattle.xcp_locked.specs.declared.worker.Worker.{Worker}
 use Rattle.xcp_locked.specs.Excerpts.{ChaptersValue, none_cut}
-use Rattle.xcp_locked.specs.TaskOutcome.{chapters_of, first_fault}
+use Rattle.xcp_locked.specs.TaskOutcome.{chapters_of, first_task_fault}
 use Rattle.xcp_locked.specs.Tasks.{IsOwn, Worked}
 use Rattle.xcp_locked.proofs.PairedListLemmas.{first_of}
 
@@ -21,9 +21,9 @@ nothing_behind None = refl
 nothing_behind (Some e) = refl
 
 -- one more task's fault comes behind the others
-pub first_fault-more : {N : Type 0} (done : List (Done N)) (d : Done N) → first_fault (done ++ d ∷ []) ≡ option_or (first_fault done) d.fault
+pub first_fault-more : {N : Type 0} (done : List (Done N)) (d : Done N) → first_task_fault (done ++ d ∷ []) ≡ option_or (first_task_fault done) d.fault
 first_fault-more [] d = nothing_behind d.fault
-first_fault-more (x ∷ done) d = ap (λ z. option_or x.fault z) (first_fault-more done d) ∙ first_of_three x.fault (first_fault done) d.fault
+first_fault-more (x ∷ done) d = ap (λ z. option_or x.fault z) (first_fault-more done d) ∙ first_of_three x.fault (first_task_fault done) d.fault
 
 -- what a task did, said of its worker
 pub worked_as : {N : Type 0} (layout : LayoutValue) (may_end : Type 0) (cycles cycles' chapter chapter' task task' : ℕ) (w w' new : Worker N) (fault : Option TaskError) → task' ≡ task → cycles' ≡ cycles → chapter' ≡ chapter → w' ≡ w → Worked layout may_end cycles' chapter' task' w' new fault → Worked layout may_end cycles chapter task w new fault

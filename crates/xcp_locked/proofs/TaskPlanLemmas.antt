@@ -4,23 +4,23 @@ use Rattle.xcp_locked.specs.declared.receipt.Receipt.{Receipt}
 use Rattle.std.specs.Prelude.{Result, Ok, Err, IfOk}
 use Rattle.xcp_slave.specs.declared.request.Request.{Request}
 use Rattle.xcp_slave.specs.declared.request.Request.TheVariants as requests
-use Rattle.xcp_locked.specs.Tasks.{Duty, duty, requests_of, event_of, closing_of, cycle_of, plan, Grew, Same}
+use Rattle.xcp_locked.specs.Tasks.{Duty, duty, receipt_requests, cycle_event, closing_of, cycle_of, plan, Grew, Same}
 use Rattle.xcp_locked.specs.private.TaskSteps.{Adds}
 use Rattle.xcp_locked.specs.Caller.{CallerValue}
 
-reqs_append : (xs ys : List Receipt) → requests_of (xs ++ ys) ≡ requests_of xs ++ requests_of ys
+reqs_append : (xs ys : List Receipt) → receipt_requests (xs ++ ys) ≡ receipt_requests xs ++ receipt_requests ys
 reqs_append [] ys = refl
 reqs_append (x ∷ xs) ys = ap (λ (z : List Request). x.request ∷ z) (reqs_append xs ys)
 
 -- one cycle more, of which these were submitted
-pub one_more : (p : Duty) (n : ℕ) (whole : Bool) (old new new' : List Receipt) (now : List Receipt) (rest : List Request) → Grew p n true old new → new' ≡ new ++ now → cycle_of p n ≡ requests_of now ++ rest → (whole ≡ true → rest ≡ []) → Grew p (n + 1) whole old new'
+pub one_more : (p : Duty) (n : ℕ) (whole : Bool) (old new new' : List Receipt) (now : List Receipt) (rest : List Request) → Grew p n true old new → new' ≡ new ++ now → cycle_of p n ≡ receipt_requests now ++ rest → (whole ≡ true → rest ≡ []) → Grew p (n + 1) whole old new'
 one_more p n whole old new new' now rest g is c all =
-    let same : plan p n ≡ requests_of g.more = g.planned ∙ (ap (λ (z : List Request). requests_of g.more ++ z) (g.all refl) ∙ end (requests_of g.more)) in
+    let same : plan p n ≡ receipt_requests g.more = g.planned ∙ (ap (λ (z : List Request). receipt_requests g.more ++ z) (g.all refl) ∙ end (receipt_requests g.more)) in
     let next : plan p (n + 1) ≡ plan p n ++ cycle_of p n = ap (plan p) (plus n) in record {
       more = g.more ++ now;
       new_is = is ∙ (ap (λ (z : List Receipt). z ++ now) g.new_is ∙ append_assoc old g.more now);
       rest = rest;
-      planned = next ∙ ((λ i. same i ++ c i) ∙ (sym (append_assoc (requests_of g.more) (requests_of now) rest) ∙ ap (λ (z : List Request). z ++ rest) (sym (reqs_append g.more now))));
+      planned = next ∙ ((λ i. same i ++ c i) ∙ (sym (append_assoc (receipt_requests g.more) (receipt_requests now) rest) ∙ ap (λ (z : List Request). z ++ rest) (sym (reqs_append g.more now))));
       all = all;
     }
   where
@@ -55,7 +55,7 @@ stopped p n cycles old new le g =
       more = g.more;
       new_is = g.new_is;
       rest = g.rest ++ m.0;
-      planned = ap (plan p) (sym is) ∙ (m.1 ∙ (ap (λ (z : List Request). z ++ m.0) g.planned ∙ append_assoc (requests_of g.more) g.rest m.0));
+      planned = ap (plan p) (sym is) ∙ (m.1 ∙ (ap (λ (z : List Request). z ++ m.0) g.planned ∙ append_assoc (receipt_requests g.more) g.rest m.0));
       all = λ e. absurd (true≢false (sym e));
     }
 
@@ -68,13 +68,13 @@ nothing_done p n old new g = one_more p n false old new new [] (cycle_of p n) g 
     end (x ∷ xs) = ap (λ (z : List Receipt). x ∷ z) (end xs)
 
 -- the same with the receipt of the next cycle's event behind them
-pub event_done : (p : Duty) (n : ℕ) (old new mid : List Receipt) → Grew p n true old new → Adds (event_of p n ∷ []) new mid → Grew p (n + 1) false old mid
+pub event_done : (p : Duty) (n : ℕ) (old new mid : List Receipt) → Grew p n true old new → Adds (cycle_event p n ∷ []) new mid → Grew p (n + 1) false old mid
 event_done p n old new mid g a = one_more p n false old new mid a.0 (closing_of p) g a.2 (ap (λ (z : List Request). z ++ closing_of p) (sym a.1)) (λ e. absurd (true≢false (sym e)))
 
 -- receipts of whole cycles, of the next one's event and of what closes it are those of one whole cycle more
-pub all_done : (p : Duty) (n : ℕ) (whole : Bool) (old new mid end : List Receipt) → Grew p n true old new → Adds (event_of p n ∷ []) new mid → Adds (closing_of p) mid end → Grew p (n + 1) whole old end
+pub all_done : (p : Duty) (n : ℕ) (whole : Bool) (old new mid end : List Receipt) → Grew p n true old new → Adds (cycle_event p n ∷ []) new mid → Adds (closing_of p) mid end → Grew p (n + 1) whole old end
 all_done p n whole old new mid end g a b = one_more p n whole old new end (a.0 ++ b.0) [] g (b.2 ∙ (ap (λ (z : List Receipt). z ++ b.0) a.2 ∙ append_assoc new a.0 b.0))
-    ((λ i. sym a.1 i ++ sym b.1 i) ∙ (sym (reqs_append a.0 b.0) ∙ sym (none (requests_of (a.0 ++ b.0))))) (λ e. refl)
+    ((λ i. sym a.1 i ++ sym b.1 i) ∙ (sym (reqs_append a.0 b.0) ∙ sym (none (receipt_requests (a.0 ++ b.0))))) (λ e. refl)
   where
     none : (xs : List Request) → xs ++ [] ≡ xs
     none [] = refl

@@ -4,12 +4,12 @@ use Rattle.std.specs.List.{slice_get}
 use Rattle.xcp_bank.specs.BankEnds.{ReaderEnd, HoldsNumber, image_held}
 use Rattle.xcp_slave.specs.declared.Exchange.{Exchange}
 use Rattle.xcp_slave.specs.SlaveValue.{SlaveValue}
-use Rattle.xcp_locked.specs.declared.telling.Settled.{Settled}
+use Rattle.xcp_locked.specs.declared.telling.HeldPublication.{HeldPublication}
 use Rattle.xcp_locked.specs.Publications.{Publication, Published, publication}
 
 -- Of all that is published of these exchanges of a slave that was v, from the publication with the number `first` on, the reader
 -- holds the member with this number, and that one's place is told.
-pub record IsSettledAt (v : SlaveValue) (xs : List Exchange) (first : ℕ) (reader : ReaderEnd) (s : Settled) : Type 0 where
+pub record IsSettledAt (v : SlaveValue) (xs : List Exchange) (first : ℕ) (reader : ReaderEnd) (s : HeldPublication) : Type 0 where
   pub list : List Publication
   pub published : Published v xs list
   pub index : ℕ

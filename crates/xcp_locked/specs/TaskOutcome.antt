@@ -27,9 +27,9 @@ abbrev pub DoneAs : {N G : Type 0} → LayoutValue → Type 0 → Task N G → D
 DoneAs layout may_end t d = Worked layout may_end t.cycles t.chapter t.task t.worker d.worker d.fault
 
 -- the fault of the least task number that has one
-abbrev pub first_fault : {N : Type 0} → List (Done N) → Option TaskError
-first_fault [] = None
-first_fault (d ∷ more) = option_or d.fault (first_fault more)
+abbrev pub first_task_fault : {N : Type 0} → List (Done N) → Option TaskError
+first_task_fault [] = None
+first_task_fault (d ∷ more) = option_or d.fault (first_task_fault more)
 
 -- the chapters that the first worker has cut, or none where there is no worker
 abbrev pub chapters_of : {N : Type 0} → List (Worker N) → ChaptersValue
@@ -42,4 +42,4 @@ pub record RanTasks {N : Type 0} (layout : LayoutValue) (may_end : Type 0) (cycl
   pub done : List (Done N)
   pub worked : EachFrom (WorkedAs layout may_end cycles chapter) 0 workers done
   pub back : r.workers.items ≡ map (λ d. d.worker) done
-  pub fault : r.fault ≡ first_fault done
+  pub fault : r.fault ≡ first_task_fault done

@@ -25,19 +25,19 @@ abbrev pub duty : CallerValue → ℕ → Duty
 duty c task = record { events = c.events; signals = c.signals; task = task }
 
 -- the requests of receipts, in order
-abbrev pub requests_of : List Receipt → List Request
-requests_of receipts = map (λ (r : Receipt). r.request) receipts
+abbrev pub receipt_requests : List Receipt → List Request
+receipt_requests receipts = map (λ (r : Receipt). r.request) receipts
 
 -- the event of a cycle: on the task's channel, with all signals that it hands over as the cycle's number says
-abbrev pub event_of : Duty → ℕ → Request
-event_of p cycle = requests.Event (p.task % p.events) (record { items = replicate p.signals (cycle % 256) })
+abbrev pub cycle_event : Duty → ℕ → Request
+cycle_event p cycle = requests.Event (p.task % p.events) (record { items = replicate p.signals (cycle % 256) })
 
 -- task 0 finishes a store too
 abbrev pub closing_of : Duty → List Request
 closing_of p = if p.task == 0 then requests.FinishStore ∷ [] else []
 
 abbrev pub cycle_of : Duty → ℕ → List Request
-cycle_of p cycle = event_of p cycle ∷ closing_of p
+cycle_of p cycle = cycle_event p cycle ∷ closing_of p
 
 -- what so many cycles submit, in order
 abbrev pub plan : Duty → ℕ → List Request
@@ -49,7 +49,7 @@ pub record Grew (p : Duty) (cycles : ℕ) (whole : Bool) (old new : List Receipt
   pub more : List Receipt
   pub new_is : new ≡ old ++ more
   pub rest : List Request
-  pub planned : plan p cycles ≡ requests_of more ++ rest
+  pub planned : plan p cycles ≡ receipt_requests more ++ rest
   pub all : whole ≡ true → rest ≡ []
 
 -- the caller is the same one: its receipts, and how many of its calls were accepted, may be others
@@ -88,8 +88,8 @@ pub record IsFresh (layout : LayoutValue) (p : Duty) (cycle caller : ℕ) (recei
   pub event : Receipt
   pub closing : List Receipt
   pub joined : receipts ≡ front ++ event ∷ closing
-  pub asked : event.request ≡ event_of p cycle
-  pub closed : requests_of closing ≡ closing_of p
+  pub asked : event.request ≡ cycle_event p cycle
+  pub closed : receipt_requests closing ≡ closing_of p
   pub image : IsNotOlder layout caller event reader
 
 -- what a task of so many cycles did: its caller's receipts grew by its plan, where it has a fault by a beginning of it,

@@ -216,7 +216,7 @@ impl<N: Name> Chapter<N> {
     }
 
     /// Does nothing: its contract says what the type keeps.
-    pub fn audit(&self)
+    pub fn known(&self)
         ensures run { Run self.now.base (exchanges self.now.entries) self.now.last }
         ensures reached { IsReached N.layout self.now.before self.now.base }
         ensures few { length self.now.entries ≤ journal_limit }

@@ -46,7 +46,7 @@ impl Excerpt {
     }
 
     /// Does nothing: its contract says what the type keeps.
-    pub fn audit(&self)
+    pub fn known(&self)
         ensures few { length self.now.calls ≤ journal_limit }
     {
         let _ = &self.last;

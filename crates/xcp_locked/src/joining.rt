@@ -2,7 +2,7 @@
 ghost use Rattle.std.specs.Prelude.{◌≡◌, ◌≢◌, ◌≤◌, ◌<◌, ◌-◌, ◌++◌, OnOk, IfOk, IfErr, length, true, false, sum_by, slice_index_or as get_or};
 ghost use Rattle.xcp_locked.specs.Caller.{accepted_by};
 ghost use Rattle.xcp_locked.specs.Chapters.{AreJoined, Disagree, IsFirstGap, IsWhole, entries_of};
-ghost use Rattle.xcp_locked.specs.private.NoChapter.{no_chapter};
+ghost use Rattle.xcp_locked.specs.private.NoChapter.{empty_chapter};
 ghost use Rattle.xcp_locked.specs.SettledReceipts.{AreSettledFor, FirstUnsettledFor};
 
 use crate::{Caller, Chapter, Locked, Name, Unsettled};
@@ -20,7 +20,7 @@ pub fn check_joined<N: Name>(locked: &Locked<N>, chapters: &[Chapter<N>]) -> Res
     let mut calls = 0;
     for k in 0..chapters.len() {
         let chapter = &chapters[k];
-        chapter.audit();
+        chapter.known();
         if chapter.number() != k as u64
             || chapter.before() != calls
             || !follows(chapters, k, chapter.base())
@@ -29,7 +29,7 @@ pub fn check_joined<N: Name>(locked: &Locked<N>, chapters: &[Chapter<N>]) -> Res
         }
         calls = chapter.before() + chapter.len();
     }
-    locked.audit();
+    locked.known();
     let last = chapters.len();
     if locked.chapter() != last as u64
         || locked.before() != calls
@@ -45,9 +45,9 @@ pub fn check_joined<N: Name>(locked: &Locked<N>, chapters: &[Chapter<N>]) -> Res
 fn follows<N: Name>(chapters: &[Chapter<N>], number: usize, base: &Slave) -> bool
     requires { number ≤ length chapters.now }
     ensures yes { result ≡ true → 0 < number
-        → base.now ≡ (get_or chapters.now (number - 1) no_chapter).last }
+        → base.now ≡ (get_or chapters.now (number - 1) empty_chapter).last }
     ensures no { result ≡ false → (0 < number)
-        × (base.now ≢ (get_or chapters.now (number - 1) no_chapter).last) }
+        × (base.now ≢ (get_or chapters.now (number - 1) empty_chapter).last) }
 {
     if number == 0 {
         return true;
@@ -80,7 +80,7 @@ pub fn settle_chapters<N: Name>(
     ensures same { (locked.new ≡ locked.old) × (callers.new ≡ callers.old) }
 {
     locked.gather(callers);
-    locked.audit();
+    locked.known();
     if let Err(number) = check_joined(locked, chapters) {
         return Err(Discord::Chapter(number));
     }

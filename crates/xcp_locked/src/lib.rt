@@ -58,7 +58,7 @@ pub use running::{collect_workers, number_tasks, run_tasks};
 pub use settling::Mismatch;
 pub use sheaf::Sheaf;
 pub use tasks::{Done, Ran, Task, TaskError, event, take_image};
-pub use telling::Settled;
+pub use telling::HeldPublication;
 pub use tool::Tool;
 pub use waiting::{HasSlave, wait_for_packets};
 pub use worker::Worker;

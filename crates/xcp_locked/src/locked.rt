@@ -63,13 +63,13 @@ impl<N: Name> Model for Locked<N> {
     ghost use Rattle.xcp_locked.specs.LockedSlave.{IsReached, LockedValue};
     ghost use Rattle.xcp_locked.specs.Journal.{exchanges, journal_limit, last_chapter};
     ghost use Rattle.xcp_locked.specs.PublishingCalls.{AreAllImages};
-    ghost use Rattle.xcp_locked.specs.private.OfferedImages.{IsKept};
+    ghost use Rattle.xcp_locked.specs.private.OfferedImages.{IsOfferKept};
 
     ghost Value = { LockedValue };
 
     ghost view = { λ l. record { slave = l.slave; chapter = l.chapter; base = arc_value l.base; journal = l.journal.entries; before = l.before; writer = l.publisher.writer; first = l.publisher.first } };
 
-    ghost invariant = { λ l. Run (arc_value l.base) (exchanges l.journal.entries) l.slave × (l.book.total ≡ l.before + length l.journal.entries) × (length l.journal.entries ≤ journal_limit) × (layout_of l.slave ≡ N.layout) × IsKept (image_size N.layout) N.bank (arc_value l.base) (exchanges l.journal.entries) l.slave l.publisher × IsReached N.layout l.before (arc_value l.base) × (l.before ≤ l.chapter * journal_limit) × (l.chapter ≤ last_chapter) × (l.publisher.first ≤ l.before) × AreAllImages N.layout l.before (arc_value l.base) (exchanges l.journal.entries) l.publisher.writer.publications };
+    ghost invariant = { λ l. Run (arc_value l.base) (exchanges l.journal.entries) l.slave × (l.book.total ≡ l.before + length l.journal.entries) × (length l.journal.entries ≤ journal_limit) × (layout_of l.slave ≡ N.layout) × IsOfferKept (image_size N.layout) N.bank (arc_value l.base) (exchanges l.journal.entries) l.slave l.publisher × IsReached N.layout l.before (arc_value l.base) × (l.before ≤ l.chapter * journal_limit) × (l.chapter ≤ last_chapter) × (l.publisher.first ≤ l.before) × AreAllImages N.layout l.before (arc_value l.base) (exchanges l.journal.entries) l.publisher.writer.publications };
 }
 
 impl<N: Name> Locked<N> {
@@ -100,7 +100,7 @@ impl<N: Name> Locked<N> {
         let at = self.len();
         let chapter = self.chapter;
         let mut packet = Packet::new();
-        let told = self.submit_into(caller, request.asked(), &mut packet)?;
+        let told = self.submit_into(caller, request.lent(), &mut packet)?;
         Ok(Receipt {
             chapter,
             at,
@@ -254,7 +254,7 @@ impl<N: Name> Locked<N> {
     /// before it led to from the opening of the layout that was named; that what is published since
     /// its first image are the images of this run, and all that is published those of all calls since
     /// the opening. The type keeps this.
-    pub fn audit(&self)
+    pub fn known(&self)
         ensures run { Run self.now.base (exchanges self.now.journal) self.now.slave }
         ensures reached { IsReached N.layout self.now.before self.now.base }
         ensures layout { layout_of self.now.slave ≡ N.layout }
@@ -320,7 +320,7 @@ fn execute(
         ++ entry caller (request_asked asked.entry) (answer_in result packet.new) ∷ [] }
     ensures offers { Offers place (image_of slave.new) publisher.old publisher.new }
 {
-    slave.audit();
+    slave.known();
     let told = slave.answer(asked, packet);
     publisher.offer(slave, asked, &told, place);
     journal.push(caller, asked, &told, packet);

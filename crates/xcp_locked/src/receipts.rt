@@ -29,11 +29,11 @@ pub struct Receipts {
 impl Model for Receipts {
     ghost use Rattle.std.specs.Prelude.{◌≡◌, ◌-◌, length, vec_len, vec_capacity};
     ghost use Rattle.xcp_locked.specs.Receipts.{ReceiptsValue};
-    ghost use Rattle.xcp_locked.specs.private.PlacedExchanges.{receipts_in};
+    ghost use Rattle.xcp_locked.specs.private.PlacedExchanges.{receipts_at};
 
     ghost Value = { ReceiptsValue };
 
-    ghost view = { λ r. record { list = receipts_in r.places.items r.exchanges.exchanges; places = vec_capacity r.places - vec_len r.places; bytes = r.exchanges.room } };
+    ghost view = { λ r. record { list = receipts_at r.places.items r.exchanges.exchanges; places = vec_capacity r.places - vec_len r.places; bytes = r.exchanges.room } };
 
     ghost invariant = { λ r. length r.places.items ≡ length r.exchanges.exchanges };
 }
@@ -78,7 +78,7 @@ impl Receipts {
         });
         let mut packet = Packet::new();
         let told = receipt.answer.lay(&mut packet);
-        self.exchanges.push(receipt.request.asked(), &told, &packet);
+        self.exchanges.push(receipt.request.lent(), &told, &packet);
         Ok(())
     }
 
@@ -130,11 +130,11 @@ pub struct ReceiptsLeft<'a> {
 impl<'a> Model for ReceiptsLeft<'a> {
     ghost use Rattle.std.specs.Prelude.{◌≡◌, List, length};
     ghost use Rattle.xcp_locked.specs.declared.receipt.Receipt.{Receipt};
-    ghost use Rattle.xcp_locked.specs.private.PlacedExchanges.{receipts_in};
+    ghost use Rattle.xcp_locked.specs.private.PlacedExchanges.{receipts_at};
 
     ghost Value = { List Receipt };
 
-    ghost view = { λ r. receipts_in r.places.now r.exchanges };
+    ghost view = { λ r. receipts_at r.places.now r.exchanges };
 
     ghost invariant = { λ r. length r.places.now ≡ length r.exchanges };
 }

@@ -1,7 +1,7 @@
 //! Tasks, each in a thread of its own.
 ghost use Rattle.std.specs.Prelude.{◌≡◌, ◌<◌, ◌≤◌, [], IfErr, IfOk, map, length, vec_len, vec_capacity};
 ghost use Rattle.xcp_locked.specs.PairedLists.{EachFrom};
-ghost use Rattle.xcp_locked.specs.TaskOutcome.{IsTaskOf, RanTasks, first_fault};
+ghost use Rattle.xcp_locked.specs.TaskOutcome.{IsTaskOf, RanTasks, first_task_fault};
 
 use crate::{Done, Gate, Locked, Name, Ran, Task, TaskError, Worker};
 use std::alloc::{AllocError, Global};
@@ -73,7 +73,7 @@ pub fn number_tasks<'a, N: Name, G: Gate>(
 pub fn collect_workers<N: Name>(done: Vec<Done<N>>, room: Vec<Worker<N>>) -> Ran<N>
     requires { (room.items ≡ []) × (vec_len done ≤ vec_capacity room) }
     ensures workers { result.workers.items ≡ map (λ d. d.worker) done.items }
-    ensures fault { result.fault ≡ first_fault done.items }
+    ensures fault { result.fault ≡ first_task_fault done.items }
 {
     let mut workers = room;
     let mut fault = None;

@@ -2,7 +2,7 @@
 ghost use Rattle.std.specs.Prelude.{◌≡◌, ◌≢◌, MatchBool, MatchResult, Some, true};
 ghost use Rattle.xcp_locked.specs.Receipts.{receipt_of};
 ghost use Rattle.xcp_locked.specs.SettledReceipts.{DifferAt, DiffersFor, IsSettledFor, compared, receipts_for, tally};
-ghost use Rattle.xcp_locked.specs.private.PlacedExchanges.{ahead};
+ghost use Rattle.xcp_locked.specs.private.PlacedExchanges.{receipts_ahead};
 
 use crate::receipts::LentReceipt;
 use crate::{Caller, Locked, Name, Receipts, ReceiptsLeft};
@@ -77,7 +77,7 @@ fn next_compared<'a>(
     chapter: u64,
     left: &mut ReceiptsLeft<'a>,
 ) -> Option<LentReceipt<'a>>
-    ensures { receipts_for later chapter left.old ≡ ahead result (receipts_for later chapter left.new) }
+    ensures { receipts_for later chapter left.old ≡ receipts_ahead result (receipts_for later chapter left.new) }
 {
     for _passed in 0..left.len() {
         let Some(receipt) = left.next_lent() else {

@@ -5,7 +5,7 @@ ghost use Rattle.xcp_bank.specs.SeatKnowledge.{AllBegin};
 ghost use Rattle.xcp_memory.specs.EcuImage.{image_size};
 ghost use Rattle.xcp_locked.specs.FaultNumbers.{task_number};
 ghost use Rattle.xcp_locked.specs.TaskImages.{IsTold, Took, TookImage};
-ghost use Rattle.xcp_locked.specs.Tasks.{Grew, HasCut, IsFresh, IsOwn, Same, closing_of, duty, event_of};
+ghost use Rattle.xcp_locked.specs.Tasks.{Grew, HasCut, IsFresh, IsOwn, Same, closing_of, duty, cycle_event};
 ghost use Rattle.xcp_locked.specs.private.TaskSteps.{Adds};
 
 use crate::{Caller, Gate, ImageBuffer, Locked, LockedError, Name, Reader, Worker};
@@ -203,7 +203,7 @@ fn cycle<N: Name, G: Gate>(
 /// The event that a task submits in a cycle: on the channel of its number, modulo the number of channels, with all
 /// signals that it hands over, the first 64 bytes at most, the cycle's number, modulo 256.
 pub fn event<N: Name>(caller: &Caller<N>, task: u8, cycle: u32) -> Request
-    ensures { result ≡ event_of (duty caller.now task) cycle }
+    ensures { result ≡ cycle_event (duty caller.now task) cycle }
 {
     let channel = (task as usize % caller.events) as u16;
     Request::Event(channel, all_signals(caller.signals, (cycle % 256) as u8))
@@ -259,7 +259,7 @@ fn submit_and_tell<N: Name>(
 {
     match locked.submit(caller, event) {
         Ok(_) => {
-            locked.audit();
+            locked.known();
             locked.tell(reader);
             None
         }

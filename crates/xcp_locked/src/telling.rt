@@ -12,7 +12,7 @@ use crate::{Locked, LockedError, Name, Reader};
 /// Which publication a reader holds: its number, from 0, the open chapter, and its place there: the
 /// number of calls that the chapter had when it was published, 0 for the chapter's first.
 #[derive(Clone, Copy, Debug, PartialEq, Eq)]
-pub struct Settled {
+pub struct HeldPublication {
     pub number: u64,
     pub chapter: u64,
     pub from: u64,
@@ -40,7 +40,10 @@ impl<N: Name> Locked<N> {
     /// Which publication the reader holds, if it holds one; `Earlier` where that is older than the open
     /// chapter's first image. It is told all that was published, and what it holds stays: what it had seen is the beginning of what was published, so the image is
     /// the one that it held (`a_settled_image_is_the_one_held`).
-    pub fn settle_reader(&mut self, reader: &mut Reader<N>) -> Result<Option<Settled>, LockedError>
+    pub fn settle_reader(
+        &mut self,
+        reader: &mut Reader<N>,
+    ) -> Result<Option<HeldPublication>, LockedError>
         ensures none { result ≡ Ok None ↔ (reader.old.held ≡ None) }
         ensures earlier { result ≡ Err LockedError.Earlier ↔ HoldsEarlier self.old.first reader.old }
         ensures settled { IfOk result (λ o. IfSome o (λ s. IsSettledAt self.old.base
@@ -61,7 +64,7 @@ impl<N: Name> Locked<N> {
             return Err(LockedError::Earlier);
         }
         let from = self.publisher.places[(number - self.publisher.first) as usize];
-        Ok(Some(Settled {
+        Ok(Some(HeldPublication {
             number,
             chapter: self.chapter,
             from,

@@ -14,7 +14,7 @@ use Rattle.xcp_memory.specs.declared.parts.SegmentPart.{SegmentPart}
 use Rattle.xcp_memory.specs.declared.parts.EventPart.{EventPart}
 use Rattle.xcp_memory.specs.ClassLimits.{limits_of}
 use Rattle.xcp_memory.specs.Layout.{LayoutValue, IsLayout, IsApart, IsPrintable, Extent, SegmentValue, extents, segment_extent, signals_extent, no_extent}
-use Rattle.xcp_memory.specs.LayoutParts.{Placed, placed_segment, areas, number, size, segment_of_part, event_of_part, layout_of}
+use Rattle.xcp_memory.specs.LayoutParts.{Placed, placed_segment, areas, number, size, segment_of_part, event_of_part, layout_from}
 use Rattle.xcp_memory.specs.declared.key.Key.TheVariants as key
 use Rattle.xcp_memory.specs.declared.key.LayoutFault.TheVariants.{Range, TooMany}
 use Rattle.xcp_packet.specs.Rows.{first_holding, must}
@@ -160,12 +160,12 @@ pub record NoneBroken (p : Parts) : Type 0 where
   pub segments : first_holding (segments_limits p.class p.segments.items) ≡ None
   pub signals : first_holding (signals_limits p.class p.signals_address p.signals_length) ≡ None
   pub events : first_holding (events_limits p.class p.events.items) ≡ None
-  pub apart : first_holding (apart_limits (areas (layout_of p))) ≡ None
+  pub apart : first_holding (apart_limits (areas (layout_from p))) ≡ None
 
 -- parts that break no limit break none in any group of them
 pub none_broken : (p : Parts) → first_fault p ≡ None → NoneBroken p
 none_broken p h =
-    let a = none_both (own_limits p ++ segments_limits p.class p.segments.items ++ signals_limits p.class p.signals_address p.signals_length ++ events_limits p.class p.events.items) (apart_limits (areas (layout_of p))) h in
+    let a = none_both (own_limits p ++ segments_limits p.class p.segments.items ++ signals_limits p.class p.signals_address p.signals_length ++ events_limits p.class p.events.items) (apart_limits (areas (layout_from p))) h in
     let b = none_both (own_limits p ++ segments_limits p.class p.segments.items ++ signals_limits p.class p.signals_address p.signals_length) (events_limits p.class p.events.items) a.0 in
     let c = none_both (own_limits p ++ segments_limits p.class p.segments.items) (signals_limits p.class p.signals_address p.signals_length) b.0 in
     let d = none_both (own_limits p) (segments_limits p.class p.segments.items) c.0 in
@@ -228,9 +228,9 @@ pub good_events : (class : Class) (es : List EventPart) → events_counted class
 good_events class es c = each_kept event_limits IsGoodEvent good_event 0 es c.behind
 
 -- parts that break no limit make a lawful layout
-pub lawful : (p : Parts) → first_fault p ≡ None → IsLayout (layout_of p)
+pub lawful : (p : Parts) → first_fault p ≡ None → IsLayout (layout_from p)
 lawful p h =
-    let l = layout_of p in
+    let l = layout_from p in
     let ss = p.segments.items in
     let es = p.events.items in
     let g = none_broken p h in

@@ -17,7 +17,7 @@ use Rattle.xcp_memory.specs.ClassLimits.{limits_of}
 use Rattle.xcp_memory.specs.Layout.{LayoutValue, IsLayout, IsApart, IsPrintable, Extent, extents, no_extent}
 use Rattle.xcp_memory.specs.LayoutLaws.{IsNatural, IsByte, AreNumbers}
 use Rattle.xcp_memory.specs.Pages.{no_segment}
-use Rattle.xcp_memory.specs.LayoutParts.{Placed, areas, number, size, segment_of_part, event_of_part, layout_of}
+use Rattle.xcp_memory.specs.LayoutParts.{Placed, areas, number, size, segment_of_part, event_of_part, layout_from}
 use Rattle.xcp_packet.specs.Rows.{first_holding}
 use Rattle.xcp_memory.specs.Limits.{Limit, is_within, is_printable, is_text, is_text_or_none, is_apart, apart_limit, apart_limits, limits_in, segment_counts, segments_limits, signals_limits, event_counts, event_limits, events_limits, own_limits, first_fault}
 use Rattle.xcp_packet.proofs.RowTestLemmas.{kept, none_left, behind_4}
@@ -130,9 +130,9 @@ areas_apart l h =
     (let k = h.apart i j p (omega arith) in
     subst (λ x. IsApart x (get_or (areas l) j no_area).extent) (at i) (subst (λ x. IsApart (get_or (extents l) i no_extent) x) (at j) k)))
 
-segments_keep : (p : Parts) → IsLayout (layout_of p) → AreNumbers p → first_holding (segments_limits p.class p.segments.items) ≡ None
+segments_keep : (p : Parts) → IsLayout (layout_from p) → AreNumbers p → first_holding (segments_limits p.class p.segments.items) ≡ None
 segments_keep p h n =
-    let l = layout_of p in
+    let l = layout_from p in
     let ss = p.segments.items in
     let long = length-map ss segment_of_part in
     let least = h.segments_least in
@@ -145,7 +145,7 @@ segments_keep p h n =
     let each : All Keeps ss = λ k d b. record { good = record { filled = filled k d b; ends = ends k d b; paged = paged k d b }; address = (n.segments k d b).0; pages = (n.segments k d b).1 } in
     none_left (segment_counts p.class (length ss)) (flat_map (limits_in p.class ss) (enumerate_from 0 ss)) counts ∙ each_keeps (limits_in p.class ss) Keeps (segment_keeps p.class ss total) 0 ss each
 
-events_keep : (p : Parts) → IsLayout (layout_of p) → AreNumbers p → first_holding (events_limits p.class p.events.items) ≡ None
+events_keep : (p : Parts) → IsLayout (layout_from p) → AreNumbers p → first_holding (events_limits p.class p.events.items) ≡ None
 events_keep p h n =
     let es = p.events.items in
     let long = length-map es event_of_part in
@@ -157,9 +157,9 @@ events_keep p h n =
     let each : All KeepsEvent es = λ k d b. record { lengths = names k d b; printable_all = texts k d b; numbers = n.events k d b } in
     none_left (event_counts p.class (length es)) (flat_map event_limits (enumerate_from 0 es)) counts ∙ each_keeps event_limits KeepsEvent event_keeps 0 es each
 
-signals_keep : (p : Parts) → IsLayout (layout_of p) → AreNumbers p → first_holding (signals_limits p.class p.signals_address p.signals_length) ≡ None
+signals_keep : (p : Parts) → IsLayout (layout_from p) → AreNumbers p → first_holding (signals_limits p.class p.signals_address p.signals_length) ≡ None
 signals_keep p h n =
-    let l = layout_of p in
+    let l = layout_from p in
     let P : Extent → Type 0 = λ e. e.address + e.size ≤ 0xFFFF_FFFF in
     let ends = subst P (extents-signals l) (All-get_or P (extents l) (length l.segments) no_extent (omega (arith, length-extents l)) h.last) in
     let least = h.signals_least in
@@ -173,7 +173,7 @@ not_three n h = grind (arith, nat_tests)
 is_other : (n : ℕ) → not (not (n == 3)) ≡ false → n ≢ 3
 is_other n h = grind (arith, nat_tests)
 
-own_keep : (p : Parts) → IsLayout (layout_of p) → AreNumbers p → first_holding (own_limits p) ≡ None
+own_keep : (p : Parts) → IsLayout (layout_from p) → AreNumbers p → first_holding (own_limits p) ≡ None
 own_keep p h n =
     let id = text 64 p.id.items h.id_least h.id_most h.id_text in
     let cto = within 8 255 p.max_cto n.cto h.cto_least h.cto_most in
@@ -185,10 +185,10 @@ own_keep p h n =
     let ticks = within 1 65535 p.clock.ticks n.ticks h.ticks_least h.ticks_most in
     keeps (own_limits p) (ap not id, (ap not cto, (ap not dto, (ap not kind, (ap not a2l, (ap not size, (not_three _ n.stamp_known, (ap not unit, (ap not ticks, tt)))))))))
 
-keep : (p : Parts) → IsLayout (layout_of p) → AreNumbers p → first_fault p ≡ None
+keep : (p : Parts) → IsLayout (layout_from p) → AreNumbers p → first_fault p ≡ None
 keep p h n =
-    behind_4 (own_limits p) (segments_limits p.class p.segments.items) (signals_limits p.class p.signals_address p.signals_length) (events_limits p.class p.events.items) (apart_limits (areas (layout_of p))) (own_keep p h n) (segments_keep p h n) (signals_keep p h n) (events_keep p h n)
-    ∙ areas_apart (layout_of p) h
+    behind_4 (own_limits p) (segments_limits p.class p.segments.items) (signals_limits p.class p.signals_address p.signals_length) (events_limits p.class p.events.items) (apart_limits (areas (layout_from p))) (own_keep p h n) (segments_keep p h n) (signals_keep p h n) (events_keep p h n)
+    ∙ areas_apart (layout_from p) h
 
 -- parts that break no limit have such numbers
 byte_of : (z : ℤ) → is_within 0 255 z ≡ true → IsByte z
@@ -230,5 +230,5 @@ numbers p h =
     }
 
 -- parts break no limit exactly where they make a lawful layout and their numbers are within their ranges
-pub kept_limits : (p : Parts) → (first_fault p ≡ None) ↔ (IsLayout (layout_of p) × AreNumbers p)
+pub kept_limits : (p : Parts) → (first_fault p ≡ None) ↔ (IsLayout (layout_from p) × AreNumbers p)
 kept_limits p = (λ h. (lawful p h, numbers p h), λ k. keep p k.0 k.1)

@@ -2,7 +2,7 @@
 use Rattle.std.specs.Prelude.{◌≡◌, ℕ, ℤ, pos, ◌≤◌, ◌↔◌, ◌≢◌, All, true, None}
 use Rattle.xcp_memory.specs.declared.parts.Parts.{Parts}
 use Rattle.xcp_memory.specs.Layout.{LayoutValue, IsLayout}
-use Rattle.xcp_memory.specs.LayoutParts.{number, layout_of}
+use Rattle.xcp_memory.specs.LayoutParts.{number, layout_from}
 use Rattle.xcp_memory.specs.Limits.{first_fault}
 use Rattle.xcp_memory.specs.Memory.{LiesIn, LiesInside}
 use Rattle.xcp_memory.specs.ComputedAccess.{lies_inside}
@@ -37,7 +37,7 @@ pub record AreNumbers (p : Parts) : Type 0 where
 
 -- parts break no limit exactly where the layout that they make is within all limits, and their numbers are numbers of it
 abbrev pub KeptLimitsMakeALayout : Type 0
-KeptLimitsMakeALayout = (p : Parts) → (first_fault p ≡ None) ↔ (IsLayout (layout_of p) × AreNumbers p)
+KeptLimitsMakeALayout = (p : Parts) → (first_fault p ≡ None) ↔ (IsLayout (layout_from p) × AreNumbers p)
 
 -- the word that computes whether a range lies in one area says what the relation says
 abbrev pub RangesAreDecided : Type 0

@@ -57,8 +57,8 @@ abbrev pub event_of_part : EventPart → EventValue
 event_of_part e = record { name = e.name.items; cycle = number e.cycle; unit = number e.unit; priority = number e.priority }
 
 -- the layout of these parts
-abbrev pub layout_of : Parts → LayoutValue
-layout_of p = record {
+abbrev pub layout_from : Parts → LayoutValue
+layout_from p = record {
   class = p.class;
   id = p.id.items;
   max_cto = number p.max_cto;

@@ -12,7 +12,7 @@ use Rattle.xcp_memory.specs.declared.key.Key.TheVariants as key
 use Rattle.xcp_memory.specs.declared.key.LayoutFault.{LayoutFault}
 use Rattle.xcp_memory.specs.declared.key.LayoutFault.TheVariants.{Range, Overlap, TooMany}
 use Rattle.xcp_memory.specs.ClassLimits.{limits_of}
-use Rattle.xcp_memory.specs.LayoutParts.{Placed, number, size, layout_of, areas}
+use Rattle.xcp_memory.specs.LayoutParts.{Placed, number, size, layout_from, areas}
 use Rattle.xcp_memory.specs.Layout.{Extent}
 
 -- a limit: the test that it is broken, and the fault if it is
@@ -193,7 +193,7 @@ limits p =
     ++ segments_limits p.class p.segments.items
     ++ signals_limits p.class p.signals_address p.signals_length
     ++ events_limits p.class p.events.items
-    ++ apart_limits (areas (layout_of p))
+    ++ apart_limits (areas (layout_from p))
 
 -- the fault of the first limit that these parts break
 abbrev pub first_fault : Parts → Option LayoutFault

@@ -148,7 +148,7 @@ impl Extras {
     }
 
     /// Makes this the A2L file.
-    pub(crate) fn describe(&mut self, file: A2lFile)
+    pub(crate) fn set_a2l_file(&mut self, file: A2lFile)
         ensures { self.new ≡ with_file file self.old }
     {
         self.file = Some(file);

@@ -7,7 +7,7 @@ ghost use Rattle.xcp_memory.specs.ClassLimits.{limits_of};
 ghost use Rattle.xcp_memory.specs.EcuImage.{bytes_in_all, image_size};
 ghost use Rattle.xcp_memory.specs.Layout.{IsLayout, IsPrintable, described, signals_extent, no_event};
 ghost use Rattle.xcp_memory.specs.declared.key.LayoutFault.{LayoutFault};
-ghost use Rattle.xcp_memory.specs.LayoutParts.{clock_of, layout_of, number, kind_numbered};
+ghost use Rattle.xcp_memory.specs.LayoutParts.{clock_of, layout_from, number, kind_numbered};
 ghost use Rattle.xcp_packet.specs.Rows.{first_holding};
 ghost use Rattle.xcp_memory.specs.Limits.{first_fault, own_limits};
 ghost use Rattle.xcp_memory.specs.Signals.{takes_signals};
@@ -88,14 +88,14 @@ impl Layout {
     /// last address; how many event channels there are, and for each its name, time cycle, time unit and priority; the
     /// first two areas that share an address. It takes no memory.
     pub fn new(parts: Parts) -> Result<Layout, LayoutFault>
-        ensures ok { IfOk result (λ l. (first_fault parts ≡ None) × (l ≡ layout_of parts)) }
+        ensures ok { IfOk result (λ l. (first_fault parts ≡ None) × (l ≡ layout_from parts)) }
         ensures refused { (e : LayoutFault) → (result ≡ Err e) ↔ (first_fault parts ≡ Some e) }
     {
         Self::build(parts)
     }
 
     fn build(parts: Parts) -> Result<Layout, LayoutFault>
-        ensures ok { IfOk result (λ l. (first_fault parts ≡ None) × (l ≡ layout_of parts)) }
+        ensures ok { IfOk result (λ l. (first_fault parts ≡ None) × (l ≡ layout_from parts)) }
         ensures refused { IfErr result (λ e. first_fault parts ≡ Some e) }
     {
         let own = OwnValues::read(&parts)?;
@@ -179,7 +179,7 @@ impl Layout {
     }
 
     /// Every layout is within the limits. A caller that proves something of a layout calls this; it does nothing.
-    pub fn audit(&self)
+    pub fn known(&self)
         ensures { IsLayout self.now }
     {
         let _ = &self.segments;
@@ -199,7 +199,7 @@ impl Layout {
         ensures most { result ≤ (limits_of self.now.class).bytes }
         ensures bound { result ≤ 1048576 }
     {
-        self.audit();
+        self.known();
         let mut sum = 0;
         for i in 0..self.segment_count() {
             sum += self.segment_size(i);
@@ -249,7 +249,7 @@ impl Layout {
     }
 
     /// The type of checksums.
-    pub fn checksum(&self) -> ChecksumKind
+    pub fn checksum_kind(&self) -> ChecksumKind
         ensures { result ≡ self.now.checksum }
     {
         self.checksum
@@ -412,10 +412,10 @@ impl Layout {
     }
 
     /// Makes this the A2L file that tools get from the slave.
-    pub fn describe(&mut self, file: A2lFile)
+    pub fn set_a2l_file(&mut self, file: A2lFile)
         ensures { self.new ≡ described file self.old }
     {
-        self.extras.describe(file);
+        self.extras.set_a2l_file(file);
     }
 
     /// The segment in which n bytes from an address on lie. Sums of addresses don't wrap.

@@ -44,7 +44,7 @@ impl Model for PageSet {
 }
 
 impl PageSet {
-    ghost use Rattle.xcp_memory.specs.private.PagesBySide.{number_by, page_by};
+    ghost use Rattle.xcp_memory.specs.private.PagesBySide.{page_by_side, page_by};
 
     /// So many pages with these bytes; both sides have page 0, and FREEZE is off.
     pub(crate) fn new(alloc: Global, page: &[u8], count: u8) -> Result<PageSet, AllocError>
@@ -105,7 +105,7 @@ impl PageSet {
 
     /// The number of the page that a side has.
     pub(crate) fn number(&self, side: Side) -> u8
-        ensures { result ≡ number_by side self.now }
+        ensures { result ≡ page_by_side side self.now }
     {
         match side {
             Side::Ecu => self.ecu,
@@ -115,7 +115,7 @@ impl PageSet {
 
     /// The bytes of the page that a side has.
     pub(crate) fn page(&self, side: Side) -> &[u8]
-        requires { number_by side self.now < length self.now.pages }
+        requires { page_by_side side self.now < length self.now.pages }
         ensures { result.now ≡ page_by side self.now }
     {
         self.at(self.number(side) as usize)

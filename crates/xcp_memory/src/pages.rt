@@ -40,7 +40,7 @@ impl Pages {
     pub fn new(alloc: Global, layout: Layout) -> Result<Pages, AllocError>
         ensures { IfOk result (λ p. p ≡ opening_pages layout) }
     {
-        layout.audit();
+        layout.known();
         let mut segments = Vec::with_capacity(alloc, layout.segment_count())?;
         for i in 0..layout.segment_count() {
             let pages = PageSet::new(alloc, layout.segment_bytes(i), layout.segment_pages(i))?;
@@ -93,11 +93,11 @@ impl Pages {
     }
 
     /// Tells a caller's proof what is true of all pages.
-    pub fn audit(&self)
+    pub fn known(&self)
         ensures layout { IsLayout self.now.layout }
         ensures pages { IsPages self.now }
     {
-        self.layout.audit();
+        self.layout.known();
     }
 }
 

@@ -6,9 +6,9 @@ use lib.ListN.{get_elem?}
 use Rattle.crossbeam_channel.specs.Fifo.{Pushes, Pops, Forks, Merges, Learns}
 use Rattle.atomic_table.proofs.Lists.{at_set, at_snoc}
 use Rattle.xcp_outlet.specs.declared.message.Message.{Message}
-use Rattle.xcp_outlet.specs.PassKnowledge.{Half, Known, half}
-use Rattle.xcp_outlet.specs.private.KnownHalves.{nobody, everything, one_half, message, more, after_put_on, after_put, after_take, both_of}
-use Rattle.xcp_outlet.specs.ChannelRule.{keep, of, parts}
+use Rattle.xcp_outlet.specs.PassKnowledge.{Half, PassKnown, half}
+use Rattle.xcp_outlet.specs.private.KnownHalves.{nothing_known, everything, one_half, message, more, after_put_on, after_put, after_take, both_halves}
+use Rattle.xcp_outlet.specs.ChannelRule.{keep, of, message_parts}
 use Rattle.xcp_outlet.specs.private.OwnedChannel.{mark, sent, Owned, Routed, Compares}
 use mathlib.Core.List.{IsPrefix}
 use Rattle.xcp_outlet.specs.OutletEnds.{packets, has_mark}
@@ -27,19 +27,19 @@ none_some {X} {x} e = true≢false (ap is_no e)
     is_no None = true
     is_no (Some z) = false
 
-at_end : (l : List Known) (a b : Known) (j : ℕ) → get_elem? l j ≢ some b → get_elem? (l ++ a ∷ []) j ≡ some b → j ≡ length l
+at_end : (l : List PassKnown) (a b : PassKnown) (j : ℕ) → get_elem? l j ≢ some b → get_elem? (l ++ a ∷ []) j ≡ some b → j ≡ length l
 at_end [] a b zero n e = refl
 at_end [] a b (suc j) n e = absurd (some-ne-none b (sym e))
 at_end (x ∷ xs) a b zero n e = absurd (n e)
 at_end (x ∷ xs) a b (suc j) n e = ap suc (at_end xs a b j n e)
 
-module _ {X : Type 0} (f : Known → Option X) (P Q : X → Type 0) where
+module _ {X : Type 0} (f : PassKnown → Option X) (P Q : X → Type 0) where
   -- the fact changes into another that follows
-  owned_still : (views : List Known) → ((h : X) → P h → Q h) → Owned f views P → Owned f views Q
+  owned_still : (views : List PassKnown) → ((h : X) → P h → Q h) → Owned f views P → Owned f views Q
   owned_still views to o = (o.0, λ id v at h is. let k = o.1 id v at h is in (k.0, to h k.1))
 
   -- the pass that has this part gets another view
-  owned_own : (views : List Known) (id : ℕ) (v w : Known) (g : X) → get_elem? views id ≡ some v → f v ≡ Some g → ((h : X) → f w ≡ Some h → P g → Q h) → Owned f views P → Owned f (set views id w) Q
+  owned_own : (views : List PassKnown) (id : ℕ) (v w : PassKnown) (g : X) → get_elem? views id ≡ some v → f v ≡ Some g → ((h : X) → f w ≡ Some h → P g → Q h) → Owned f views P → Owned f (set views id w) Q
   owned_own views id v w g at has mine o = let k = o.1 id v at g has in (
     id,
     λ j u e h is. ⊎_elim
@@ -49,7 +49,7 @@ module _ {X : Type 0} (f : Known → Option X) (P Q : X → Type 0) where
   )
 
   -- a pass gets another view, with the same of this part
-  owned_same : (views : List Known) (id : ℕ) (v w : Known) → get_elem? views id ≡ some v → f w ≡ f v → ((h : X) → P h → Q h) → Owned f views P → Owned f (set views id w) Q
+  owned_same : (views : List PassKnown) (id : ℕ) (v w : PassKnown) → get_elem? views id ≡ some v → f w ≡ f v → ((h : X) → P h → Q h) → Owned f views P → Owned f (set views id w) Q
   owned_same views id v w at same to o = (
     o.0,
     λ j u e h is. ⊎_elim
@@ -59,7 +59,7 @@ module _ {X : Type 0} (f : Known → Option X) (P Q : X → Type 0) where
   )
 
   -- a pass is cut in two: this part stays on the left
-  owned_left : (views : List Known) (id : ℕ) (v l r : Known) → get_elem? views id ≡ some v → f l ≡ f v → f r ≡ None → Owned f views P → Owned f (set views id l ++ r ∷ []) P
+  owned_left : (views : List PassKnown) (id : ℕ) (v l r : PassKnown) → get_elem? views id ≡ some v → f l ≡ f v → f r ≡ None → Owned f views P → Owned f (set views id l ++ r ∷ []) P
   owned_left views id v l r at same none o = (
     o.0,
     λ j u e h is. ⊎_elim
@@ -72,22 +72,22 @@ module _ {X : Type 0} (f : Known → Option X) (P Q : X → Type 0) where
   )
 
   -- this part goes to the new pass
-  owned_right : (views : List Known) (id : ℕ) (v l r : Known) (g : X) → get_elem? views id ≡ some v → f v ≡ Some g → f l ≡ None → f r ≡ f v → Owned f views P → Owned f (set views id l ++ r ∷ []) P
+  owned_right : (views : List PassKnown) (id : ℕ) (v l r : PassKnown) (g : X) → get_elem? views id ≡ some v → f v ≡ Some g → f l ≡ None → f r ≡ f v → Owned f views P → Owned f (set views id l ++ r ∷ []) P
   owned_right views id v l r g at has none same o =
-      let vs : List Known = set views id l in
-      let nobody : (j : ℕ) (u : Known) → get_elem? vs j ≡ some u → (h : X) → f u ≡ Some h → ⊥ = λ j u x h is. ⊎_elim
+      let vs : List PassKnown = set views id l in
+      let none_there : (j : ℕ) (u : PassKnown) → get_elem? vs j ≡ some u → (h : X) → f u ≡ Some h → ⊥ = λ j u x h is. ⊎_elim
       (λ (y : (j ≡ id) × (l ≡ u)). none_some (sym none ∙ (ap f y.1 ∙ is)))
       (λ (y : (j ≢ id) × (get_elem? views j ≡ some u)). y.0 ((o.1 j u y.1 h is).0 ∙ sym (o.1 id v at g has).0))
       (at_set views id j l u x) in (
         length vs,
         λ j u e h is. ⊎_elim
-            (λ (x : get_elem? vs j ≡ some u). absurd (nobody j u x h is))
-            (λ (x : r ≡ u). (at_end vs r u j (λ y. nobody j u y h is) e, (o.1 id v at h (sym same ∙ (ap f x ∙ is))).1))
+            (λ (x : get_elem? vs j ≡ some u). absurd (none_there j u x h is))
+            (λ (x : r ≡ u). (at_end vs r u j (λ y. none_there j u y h is) e, (o.1 id v at h (sym same ∙ (ap f x ∙ is))).1))
             (at_snoc vs r u j e),
       )
 
   -- a pass takes in another: this part stays
-  owned_stays : (views : List Known) (id other : ℕ) (v b s : Known) → get_elem? views id ≡ some v → f b ≡ f v → f s ≡ None → Owned f views P → Owned f (set (set views id b) other s) P
+  owned_stays : (views : List PassKnown) (id other : ℕ) (v b s : PassKnown) → get_elem? views id ≡ some v → f b ≡ f v → f s ≡ None → Owned f views P → Owned f (set (set views id b) other s) P
   owned_stays views id other v b s at same none o = (
     o.0,
     λ j u e h is. ⊎_elim
@@ -100,7 +100,7 @@ module _ {X : Type 0} (f : Known → Option X) (P Q : X → Type 0) where
   )
 
   -- this part comes from the other
-  owned_comes : (views : List Known) (id other : ℕ) (w b s : Known) (g : X) → ¬ (other ≡ id) → get_elem? (set views id b) other ≡ some w → f w ≡ Some g → f b ≡ f w → f s ≡ None → Owned f views P → Owned f (set (set views id b) other s) P
+  owned_comes : (views : List PassKnown) (id other : ℕ) (w b s : PassKnown) (g : X) → ¬ (other ≡ id) → get_elem? (set views id b) other ≡ some w → f w ≡ Some g → f b ≡ f w → f s ≡ None → Owned f views P → Owned f (set (set views id b) other s) P
   owned_comes views id other w b s g apart at has same none o =
       let was : get_elem? views other ≡ some w = ⊎_elim (λ x. absurd (apart x.0)) (λ x. x.1) (at_set views id other b w at) in (
         id,
@@ -116,7 +116,7 @@ module _ {X : Type 0} (f : Known → Option X) (P Q : X → Type 0) where
 -- lists of one side
 pub of_append : (side : Bool) (xs ys : List Message) → of side (xs ++ ys) ≡ of side xs ++ of side ys
 of_append side [] ys = refl
-of_append side (x ∷ xs) ys = keeps side x.from_data (parts x.batch) (of side (xs ++ ys)) (of side xs) (of side ys) (of_append side xs ys)
+of_append side (x ∷ xs) ys = keeps side x.from_data (message_parts x.batch) (of side (xs ++ ys)) (of side xs) (of side ys) (of_append side xs ys)
   where
     keeps : (a b : Bool) (ps all l r : List (Option (List ℕ))) → all ≡ l ++ r → keep a b ps all ≡ keep a b ps l ++ r
     keeps true true ps all l r e = ap (λ (z : List (Option (List ℕ))). ps ++ z) e ∙ sym (append_assoc ps l r)
@@ -136,18 +136,18 @@ marks : (ps : List (List ℕ)) → map Some ps ++ None ∷ [] ≡ (map Some ps +
 marks [] = refl
 marks (x ∷ xs) = ap (λ (z : List (Option (List ℕ))). Some x ∷ z) (marks xs)
 
-sent_more : (b : Option (List (List ℕ))) (ps : List (List ℕ)) → sent (more b (half ps false)) ≡ sent (half ps false) ++ parts b
+sent_more : (b : Option (List (List ℕ))) (ps : List (List ℕ)) → sent (more b (half ps false)) ≡ sent (half ps false) ++ message_parts b
 sent_more None ps = marks ps
 sent_more (Some qs) ps = map_behind ps qs
 
 -- at a put of the side itself, and of the other side
-here : (side : Bool) (p : Option (List (List ℕ))) (ps : List (List ℕ)) (taken items : List Message) → keep side side (parts p) [] ≡ parts p → sent (half ps false) ≡ of side (taken ++ items) → sent (more p (half ps false)) ≡ of side (taken ++ (items ++ message side p ∷ []))
-here side p ps taken items one e = sent_more p ps ∙ (ap (λ (z : List (Option (List ℕ))). z ++ parts p) e ∙ sym (ap (of side) (sym (append_assoc taken items (message side p ∷ []))) ∙ (of_append side (taken ++ items) (message side p ∷ []) ∙ ap (λ (z : List (Option (List ℕ))). of side (taken ++ items) ++ z) one)))
+here : (side : Bool) (p : Option (List (List ℕ))) (ps : List (List ℕ)) (taken items : List Message) → keep side side (message_parts p) [] ≡ message_parts p → sent (half ps false) ≡ of side (taken ++ items) → sent (more p (half ps false)) ≡ of side (taken ++ (items ++ message side p ∷ []))
+here side p ps taken items one e = sent_more p ps ∙ (ap (λ (z : List (Option (List ℕ))). z ++ message_parts p) e ∙ sym (ap (of side) (sym (append_assoc taken items (message side p ∷ []))) ∙ (of_append side (taken ++ items) (message side p ∷ []) ∙ ap (λ (z : List (Option (List ℕ))). of side (taken ++ items) ++ z) one)))
 
-there : (side other : Bool) (p : Option (List (List ℕ))) (taken items : List Message) → keep side other (parts p) [] ≡ [] → of side (taken ++ (items ++ message other p ∷ [])) ≡ of side (taken ++ items)
+there : (side other : Bool) (p : Option (List (List ℕ))) (taken items : List Message) → keep side other (message_parts p) [] ≡ [] → of side (taken ++ (items ++ message other p ∷ [])) ≡ of side (taken ++ items)
 there side other p taken items none = ap (of side) (sym (append_assoc taken items (message other p ∷ []))) ∙ (of_append side (taken ++ items) (message other p ∷ []) ∙ (ap (λ (z : List (Option (List ℕ))). of side (taken ++ items) ++ z) none ∙ nil_end (of side (taken ++ items))))
 
-only : (id : ℕ) (v : Known) → get_elem? (everything ∷ []) id ≡ some v → (id ≡ 0) × (everything ≡ v)
+only : (id : ℕ) (v : PassKnown) → get_elem? (everything ∷ []) id ≡ some v → (id ≡ 0) × (everything ≡ v)
 only zero v e = (refl, some-injective everything v e)
 only (suc id) v e = absurd (some-ne-none v (sym e))
 
@@ -155,49 +155,49 @@ only (suc id) v e = absurd (some-ne-none v (sym e))
 pub begins : Routed [] (everything ∷ [])
 begins = record {
   got = [];
-  replies = (0, λ id v e h is. let t = only id v e in (t.0, subst (λ (u : Half). sent u ≡ []) (some_is (ap (λ (z : Known). z.reply) t.1 ∙ is)) refl));
-  data_packets = (0, λ id v e h is. let t = only id v e in (t.0, subst (λ (u : Half). sent u ≡ []) (some_is (ap (λ (z : Known). z.daq) t.1 ∙ is)) refl));
-  takes = (0, λ id v e h is. let t = only id v e in (t.0, sym (some_is (ap (λ (z : Known). z.taken) t.1 ∙ is))));
+  replies = (0, λ id v e h is. let t = only id v e in (t.0, subst (λ (u : Half). sent u ≡ []) (some_is (ap (λ (z : PassKnown). z.reply) t.1 ∙ is)) refl));
+  data_packets = (0, λ id v e h is. let t = only id v e in (t.0, subst (λ (u : Half). sent u ≡ []) (some_is (ap (λ (z : PassKnown). z.daq) t.1 ∙ is)) refl));
+  takes = (0, λ id v e h is. let t = only id v e in (t.0, sym (some_is (ap (λ (z : PassKnown). z.taken) t.1 ∙ is))));
 }
 
 puts_at : (n id : ℕ) (side : Bool) (p : Option (List (List ℕ))) (ps : List (List ℕ)) → Pushes Routed n id (one_half side (half ps false)) (message side p) (λ w. w ≡ after_put_on side p (one_half side (half ps false)))
 puts_at n id false p ps items views room r at =
-    let v : Known = one_half false (half ps false) in
-    let w : Known = after_put_on false p v in (
+    let v : PassKnown = one_half false (half ps false) in
+    let w : PassKnown = after_put_on false p v in (
       w,
       record {
         got = r.got;
         replies = owned_own (λ v. v.reply) (λ h. sent h ≡ of false (r.got ++ items)) (λ h. sent h ≡ of false (r.got ++ (items ++ message false p ∷ []))) views id v w (half ps false) at refl
-            (λ h is e. subst (λ (u : Half). sent u ≡ of false (r.got ++ (items ++ message false p ∷ []))) (some_is is) (here false p ps r.got items (nil_end (parts p)) e)) r.replies;
+            (λ h is e. subst (λ (u : Half). sent u ≡ of false (r.got ++ (items ++ message false p ∷ []))) (some_is is) (here false p ps r.got items (nil_end (message_parts p)) e)) r.replies;
         data_packets = owned_same (λ v. v.daq) (λ h. sent h ≡ of true (r.got ++ items)) (λ h. sent h ≡ of true (r.got ++ (items ++ message false p ∷ []))) views id v w at refl (λ h e. e ∙ sym (there true false p r.got items refl)) r.data_packets;
         takes = owned_same (λ v. v.taken) (λ t. t ≡ r.got) (λ t. t ≡ r.got) views id v w at refl (λ h e. e) r.takes;
       },
       refl,
     )
 puts_at n id true p ps items views room r at =
-    let v : Known = one_half true (half ps false) in
-    let w : Known = after_put_on true p v in (
+    let v : PassKnown = one_half true (half ps false) in
+    let w : PassKnown = after_put_on true p v in (
       w,
       record {
         got = r.got;
         replies = owned_same (λ v. v.reply) (λ h. sent h ≡ of false (r.got ++ items)) (λ h. sent h ≡ of false (r.got ++ (items ++ message true p ∷ []))) views id v w at refl (λ h e. e ∙ sym (there false true p r.got items refl)) r.replies;
         data_packets = owned_own (λ v. v.daq) (λ h. sent h ≡ of true (r.got ++ items)) (λ h. sent h ≡ of true (r.got ++ (items ++ message true p ∷ []))) views id v w (half ps false) at refl
-            (λ h is e. subst (λ (u : Half). sent u ≡ of true (r.got ++ (items ++ message true p ∷ []))) (some_is is) (here true p ps r.got items (nil_end (parts p)) e)) r.data_packets;
+            (λ h is e. subst (λ (u : Half). sent u ≡ of true (r.got ++ (items ++ message true p ∷ []))) (some_is is) (here true p ps r.got items (nil_end (message_parts p)) e)) r.data_packets;
         takes = owned_same (λ v. v.taken) (λ t. t ≡ r.got) (λ t. t ≡ r.got) views id v w at refl (λ h e. e) r.takes;
       },
       refl,
     )
 
 -- the rule stays where an end that has put no end mark puts one more message, and its pass knows it
-pub puts : (n id : ℕ) (side : Bool) (p : Option (List (List ℕ))) (ps : List (List ℕ)) (v : Known) → v ≡ one_half side (half ps false)
+pub puts : (n id : ℕ) (side : Bool) (p : Option (List (List ℕ))) (ps : List (List ℕ)) (v : PassKnown) → v ≡ one_half side (half ps false)
     → Pushes Routed n id v (message side p) (λ w. w ≡ after_put (message side p) v) × Learns Routed id v (λ items. Unit {0})
-puts n id side p ps v is = (subst (λ (u : Known). Pushes Routed n id u (message side p) (λ w. w ≡ after_put (message side p) u)) (sym is) (puts_at n id side p ps), λ items views h at. tt)
+puts n id side p ps v is = (subst (λ (u : PassKnown). Pushes Routed n id u (message side p) (λ w. w ≡ after_put (message side p) u)) (sym is) (puts_at n id side p ps), λ items views h at. tt)
 
 -- the rule stays where the next message is taken, and the pass that takes it knows it
-pub takes : (id : ℕ) (v : Known) (t : List Message) → v.taken ≡ Some t → Pops Routed id v (λ m w. w ≡ after_take m v) × Learns Routed id v (λ items. Unit {0})
+pub takes : (id : ℕ) (v : PassKnown) (t : List Message) → v.taken ≡ Some t → Pops Routed id v (λ m w. w ≡ after_take m v) × Learns Routed id v (λ items. Unit {0})
 takes id v t has = (
   (λ m items views r at.
-      let w : Known = after_take m v in
+      let w : PassKnown = after_take m v in
       let more : r.got ++ m ∷ items ≡ (r.got ++ m ∷ []) ++ items = sym (append_assoc r.got (m ∷ []) items) in (
         w,
         record {
@@ -213,10 +213,10 @@ takes id v t has = (
 )
 
 -- the rule stays where the reply end's half leaves a pass for a new pass of its own
-pub cut_replies : (id : ℕ) (v : Known) (h : Half) → v.reply ≡ Some h → Forks Routed id v (record { reply = None; daq = v.daq; taken = v.taken }) (record { reply = v.reply; daq = None; taken = None })
+pub cut_replies : (id : ℕ) (v : PassKnown) (h : Half) → v.reply ≡ Some h → Forks Routed id v (record { reply = None; daq = v.daq; taken = v.taken }) (record { reply = v.reply; daq = None; taken = None })
 cut_replies id v h has items views r at =
-    let a : Known = record { reply = None; daq = v.daq; taken = v.taken } in
-    let b : Known = record { reply = v.reply; daq = None; taken = None } in record {
+    let a : PassKnown = record { reply = None; daq = v.daq; taken = v.taken } in
+    let b : PassKnown = record { reply = v.reply; daq = None; taken = None } in record {
       got = r.got;
       replies = owned_right (λ v. v.reply) (λ h. sent h ≡ of false (r.got ++ items)) (λ h. sent h ≡ of false (r.got ++ items)) views id v a b h at has refl refl r.replies;
       data_packets = owned_left (λ v. v.daq) (λ h. sent h ≡ of true (r.got ++ items)) (λ h. sent h ≡ of true (r.got ++ items)) views id v a b at refl refl r.data_packets;
@@ -224,10 +224,10 @@ cut_replies id v h has items views r at =
     }
 
 -- the same where the data end's half leaves it
-pub cut_data : (id : ℕ) (v : Known) (h : Half) → v.daq ≡ Some h → Forks Routed id v (record { reply = v.reply; daq = None; taken = v.taken }) (record { reply = None; daq = v.daq; taken = None })
+pub cut_data : (id : ℕ) (v : PassKnown) (h : Half) → v.daq ≡ Some h → Forks Routed id v (record { reply = v.reply; daq = None; taken = v.taken }) (record { reply = None; daq = v.daq; taken = None })
 cut_data id v h has items views r at =
-    let a : Known = record { reply = v.reply; daq = None; taken = v.taken } in
-    let b : Known = record { reply = None; daq = v.daq; taken = None } in record {
+    let a : PassKnown = record { reply = v.reply; daq = None; taken = v.taken } in
+    let b : PassKnown = record { reply = None; daq = v.daq; taken = None } in record {
       got = r.got;
       replies = owned_left (λ v. v.reply) (λ h. sent h ≡ of false (r.got ++ items)) (λ h. sent h ≡ of false (r.got ++ items)) views id v a b at refl refl r.replies;
       data_packets = owned_right (λ v. v.daq) (λ h. sent h ≡ of true (r.got ++ items)) (λ h. sent h ≡ of true (r.got ++ items)) views id v a b h at has refl refl r.data_packets;
@@ -235,27 +235,27 @@ cut_data id v h has items views r at =
     }
 
 -- the rule stays where a pass takes in the reply end's half of another one, which then stands for nothing
-pub meets_reply : (id : ℕ) (v : Known) (other : ℕ) (w : Known) (h : Half) → w.reply ≡ Some h → Merges Routed id v other w (record { reply = w.reply; daq = v.daq; taken = v.taken }) nobody
+pub meets_reply : (id : ℕ) (v : PassKnown) (other : ℕ) (w : PassKnown) (h : Half) → w.reply ≡ Some h → Merges Routed id v other w (record { reply = w.reply; daq = v.daq; taken = v.taken }) nothing_known
 meets_reply id v other w h has items views r at apart at' =
-    let b : Known = record { reply = w.reply; daq = v.daq; taken = v.taken } in record {
+    let b : PassKnown = record { reply = w.reply; daq = v.daq; taken = v.taken } in record {
       got = r.got;
-      replies = owned_comes (λ v. v.reply) (λ h. sent h ≡ of false (r.got ++ items)) (λ h. sent h ≡ of false (r.got ++ items)) views id other w b nobody h apart at' has refl refl r.replies;
-      data_packets = owned_stays (λ v. v.daq) (λ h. sent h ≡ of true (r.got ++ items)) (λ h. sent h ≡ of true (r.got ++ items)) views id other v b nobody at refl refl r.data_packets;
-      takes = owned_stays (λ v. v.taken) (λ t. t ≡ r.got) (λ t. t ≡ r.got) views id other v b nobody at refl refl r.takes;
+      replies = owned_comes (λ v. v.reply) (λ h. sent h ≡ of false (r.got ++ items)) (λ h. sent h ≡ of false (r.got ++ items)) views id other w b nothing_known h apart at' has refl refl r.replies;
+      data_packets = owned_stays (λ v. v.daq) (λ h. sent h ≡ of true (r.got ++ items)) (λ h. sent h ≡ of true (r.got ++ items)) views id other v b nothing_known at refl refl r.data_packets;
+      takes = owned_stays (λ v. v.taken) (λ t. t ≡ r.got) (λ t. t ≡ r.got) views id other v b nothing_known at refl refl r.takes;
     }
 
 -- the same where it takes in the data end's half
-pub meets_data : (id : ℕ) (v : Known) (other : ℕ) (w : Known) (h : Half) → w.daq ≡ Some h → Merges Routed id v other w (record { reply = v.reply; daq = w.daq; taken = v.taken }) nobody
+pub meets_data : (id : ℕ) (v : PassKnown) (other : ℕ) (w : PassKnown) (h : Half) → w.daq ≡ Some h → Merges Routed id v other w (record { reply = v.reply; daq = w.daq; taken = v.taken }) nothing_known
 meets_data id v other w h has items views r at apart at' =
-    let b : Known = record { reply = v.reply; daq = w.daq; taken = v.taken } in record {
+    let b : PassKnown = record { reply = v.reply; daq = w.daq; taken = v.taken } in record {
       got = r.got;
-      replies = owned_stays (λ v. v.reply) (λ h. sent h ≡ of false (r.got ++ items)) (λ h. sent h ≡ of false (r.got ++ items)) views id other v b nobody at refl refl r.replies;
-      data_packets = owned_comes (λ v. v.daq) (λ h. sent h ≡ of true (r.got ++ items)) (λ h. sent h ≡ of true (r.got ++ items)) views id other w b nobody h apart at' has refl refl r.data_packets;
-      takes = owned_stays (λ v. v.taken) (λ t. t ≡ r.got) (λ t. t ≡ r.got) views id other v b nobody at refl refl r.takes;
+      replies = owned_stays (λ v. v.reply) (λ h. sent h ≡ of false (r.got ++ items)) (λ h. sent h ≡ of false (r.got ++ items)) views id other v b nothing_known at refl refl r.replies;
+      data_packets = owned_comes (λ v. v.daq) (λ h. sent h ≡ of true (r.got ++ items)) (λ h. sent h ≡ of true (r.got ++ items)) views id other w b nothing_known h apart at' has refl refl r.data_packets;
+      takes = owned_stays (λ v. v.taken) (λ t. t ≡ r.got) (λ t. t ≡ r.got) views id other v b nothing_known at refl refl r.takes;
     }
 
 -- where a pass knows what was taken and what an end has put, the channel holds what was put and not taken
-pub compares : (id : ℕ) (v : Known) → Learns Routed id v (Compares v)
+pub compares : (id : ℕ) (v : PassKnown) → Learns Routed id v (Compares v)
 compares id v items views r at t has =
     let same : t ≡ r.got = (r.takes.1 id v at t has).1 in (
       (λ h is. (r.replies.1 id v at h is).1 ∙ ap (λ (z : List Message). of false (z ++ items)) (sym same)),
@@ -263,11 +263,11 @@ compares id v items views r at t has =
     )
 
 -- the rule stays where a pass takes in that of either end, which then stands for nothing
-pub meets : (id : ℕ) (v : Known) (other : ℕ) (w : Known) (side : Bool) (h : Half) → w ≡ one_half side h → Merges Routed id v other w (both_of v w) nobody
-meets id v other w false h is = subst (λ (u : Known). Merges Routed id v other u (both_of v u) nobody) (sym is) (meets_reply id v other (one_half false h) h refl)
-meets id v other w true h is = subst (λ (u : Known). Merges Routed id v other u (both_of v u) nobody) (sym is) (meets_data id v other (one_half true h) h refl)
+pub meets : (id : ℕ) (v : PassKnown) (other : ℕ) (w : PassKnown) (side : Bool) (h : Half) → w ≡ one_half side h → Merges Routed id v other w (both_halves v w) nothing_known
+meets id v other w false h is = subst (λ (u : PassKnown). Merges Routed id v other u (both_halves v u) nothing_known) (sym is) (meets_reply id v other (one_half false h) h refl)
+meets id v other w true h is = subst (λ (u : PassKnown). Merges Routed id v other u (both_halves v u) nothing_known) (sym is) (meets_data id v other (one_half true h) h refl)
 
-met : (side : Bool) (h : Half) (t : List Message) (v : Known) (items : List Message) → v.taken ≡ Some t → Compares (both_of v (one_half side h)) items → sent h ≡ of side (t ++ items)
+met : (side : Bool) (h : Half) (t : List Message) (v : PassKnown) (items : List Message) → v.taken ≡ Some t → Compares (both_halves v (one_half side h)) items → sent h ≡ of side (t ++ items)
 met false h t v items has c = (c t has).0 h refl
 met true h t v items has c = (c t has).1 h refl
 
@@ -307,11 +307,11 @@ whole [] false (Some q ∷ a) b is has = absurd (true≢false (ap is_nil is))
 whole (p ∷ ps) e (Some q ∷ a) b is has = λ i. sym (some_is (ap heads is)) i ∷ whole ps e a b (ap tails is) has i
 
 -- what a meeting tells
-pub meeting : (side e : Bool) (ps : List (List ℕ)) (t : List Message) (v u : Known) → v.taken ≡ Some t → u ≡ both_of v (one_half side (half ps e)) → ((items : List Message) × Compares u items)
+pub meeting : (side e : Bool) (ps : List (List ℕ)) (t : List Message) (v u : PassKnown) → v.taken ≡ Some t → u ≡ both_halves v (one_half side (half ps e)) → ((items : List Message) × Compares u items)
     → IsPrefix (packets (of side t)) ps × (has_mark (of side t) ≡ true → packets (of side t) ≡ ps)
 meeting side e ps t v u has is c =
     let items = c.0 in
-    let all = met side (half ps e) t v items has (subst (λ (z : Known). Compares z items) is c.1) in
+    let all = met side (half ps e) t v items has (subst (λ (z : PassKnown). Compares z items) is c.1) in
     let cut = all ∙ of_append side t items in (
       (packets (of side items), sym (sym (packets_sent ps e) ∙ (ap packets cut ∙ packets_append (of side t) (of side items)))),
       whole ps e (of side t) (of side items) cut,

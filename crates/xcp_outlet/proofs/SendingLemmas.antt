@@ -12,7 +12,7 @@ use Rattle.xcp_outlet.specs.private.KnownHalves.{message}
 use Rattle.xcp_outlet.specs.ChannelRule.{of}
 use Rattle.xcp_outlet.specs.OutletEnds.{packet_list, all_packets, has_mark}
 use Rattle.xcp_outlet.specs.Sending.{BothEnded, WritesAll, WritesPart}
-use Rattle.xcp_outlet.specs.private.SendingProgress.{Holds, Wrote, Progress, NoneInHand}
+use Rattle.xcp_outlet.specs.private.SendingProgress.{HoldsFrames, Wrote, Progress, NoneInHand}
 use Rattle.xcp_outlet.proofs.ChannelRuleLemmas.{of_append}
 use Rattle.xcp_outlet.proofs.WireLemmas.{appends_no_byte, appends_both, wire_of_both, frame_counts, no_frames}
 
@@ -88,7 +88,7 @@ wire_snoc ps p =
     wire_of_both 0 ps (p ∷ []) ∙ ap (λ (z : List ℕ). wire ps ++ z) (append-nil (frame_bytes (0 + length ps) p) ∙ ap (λ (k : ℕ). frame_bytes k p) same)
 
 -- a packet more is held
-holds_more : (f n : ℕ) (held : List ℕ) (ps : List (List ℕ)) (p : List ℕ) {a b : Option (List ℕ)} {old new : ℕ} → Holds f n held ps a b old new → Holds f ((n + 1) % 18446744073709551616) (held ++ frame_bytes n p) (ps ++ p ∷ []) a b old new
+holds_more : (f n : ℕ) (held : List ℕ) (ps : List (List ℕ)) (p : List ℕ) {a b : Option (List ℕ)} {old new : ℕ} → HoldsFrames f n held ps a b old new → HoldsFrames f ((n + 1) % 18446744073709551616) (held ++ frame_bytes n p) (ps ++ p ∷ []) a b old new
 holds_more f n held ps p w =
     let size : length w.whole + length w.later ≡ length ps = omega (arith, ap (λ (z : List (List ℕ)). length z) w.all, length-append w.whole w.later) in
     record {
@@ -105,7 +105,7 @@ holds_more f n held ps p w =
     }
 
 -- all that was held is written
-holds_flushed : (f n : ℕ) (held : List ℕ) (ps : List (List ℕ)) (a b c : Option (List ℕ)) {old new last : ℕ} → Holds f n held ps a b old new → Appends b c held → last ≡ new → Holds n n [] ps a c old last
+holds_flushed : (f n : ℕ) (held : List ℕ) (ps : List (List ℕ)) (a b c : Option (List ℕ)) {old new last : ℕ} → HoldsFrames f n held ps a b old new → Appends b c held → last ≡ new → HoldsFrames n n [] ps a c old last
 holds_flushed f n held ps a b c w h unfailed =
     let start : 0 + length w.whole ≡ length w.whole = omega arith in
     record {
@@ -122,7 +122,7 @@ holds_flushed f n held ps a b c w h unfailed =
     }
 
 -- the write of what was held failed
-holds_broken : (f n : ℕ) (held : List ℕ) (ps : List (List ℕ)) (a b c : Option (List ℕ)) {old new last : ℕ} → Holds f n held ps a b old new → AppendsFront b c held → last ≡ new + 1 → WritesPart f ps a c old last
+holds_broken : (f n : ℕ) (held : List ℕ) (ps : List (List ℕ)) (a b c : Option (List ℕ)) {old new last : ℕ} → HoldsFrames f n held ps a b old new → AppendsFront b c held → last ≡ new + 1 → WritesPart f ps a c old last
 holds_broken f n held ps a b c w h failed = record {
   whole = w.whole;
   later = w.later;
@@ -135,7 +135,7 @@ holds_broken f n held ps a b c w h failed = record {
 }
 
 -- nothing is held
-holds_all : (f n : ℕ) (held : List ℕ) (ps : List (List ℕ)) (a b : Option (List ℕ)) {old new : ℕ} → held ≡ [] → Holds f n held ps a b old new → WritesAll n ps a b old new
+holds_all : (f n : ℕ) (held : List ℕ) (ps : List (List ℕ)) (a b : Option (List ℕ)) {old new : ℕ} → held ≡ [] → HoldsFrames f n held ps a b old new → WritesAll n ps a b old new
 holds_all f n held ps a b none w =
     let later : w.later ≡ [] = no_frames (length w.whole) w.later (sym none ∙ w.held_is) in
     let same : w.whole ≡ ps = sym (w.all ∙ (ap (λ (z : List (List ℕ)). w.whole ++ z) later ∙ append-nil w.whole)) in
@@ -171,8 +171,8 @@ pub added : (line : Line) (t : List Message) (from : Bool) (ps : List (List ℕ)
     → Progress (record { frames = frames; most = line.most; flushed = line.flushed; broken = line.broken; replies_ended = line.replies_ended; data_ended = line.data_ended }) (t ++ message from (Some (ps ++ p ∷ [])) ∷ []) a b old new
 added line t from ps p frames {a = a} {b = b} {old = old} {new = new} well is counts g =
     let u : List Message = t ++ message from (Some ps) ∷ [] in
-    let was : Holds line.flushed line.frames.sent line.frames.held (all_packets u) a b old new = subst (λ (x : Bool). Wrote x line.flushed line.frames.sent line.frames.held (all_packets u) a b old new) well g.wrote in
-    let now : Holds line.flushed frames.sent frames.held (all_packets (t ++ message from (Some (ps ++ p ∷ [])) ∷ [])) a b old new =
+    let was : HoldsFrames line.flushed line.frames.sent line.frames.held (all_packets u) a b old new = subst (λ (x : Bool). Wrote x line.flushed line.frames.sent line.frames.held (all_packets u) a b old new) well g.wrote in
+    let now : HoldsFrames line.flushed frames.sent frames.held (all_packets (t ++ message from (Some (ps ++ p ∷ [])) ∷ [])) a b old new =
     rw (is, counts, all_more t from ps p) (holds_more line.flushed line.frames.sent line.frames.held (all_packets u) p was) in
     record {
       wrote = subst (λ (x : Bool). Wrote x line.flushed frames.sent frames.held (all_packets (t ++ message from (Some (ps ++ p ∷ [])) ∷ [])) a b old new) (sym well) now;
@@ -185,8 +185,8 @@ pub flushed : (line : Line) (t : List Message) (frames : FrameWriterValue) (coun
     → Appends b c line.frames.held → last ≡ new → Progress line t a b old new
     → Progress (record { frames = frames; most = line.most; flushed = count; broken = line.broken; replies_ended = line.replies_ended; data_ended = line.data_ended }) t a c old last
 flushed line t frames count a b c {old = old} {new = new} {last = last} well none same all h unfailed g =
-    let was : Holds line.flushed line.frames.sent line.frames.held (all_packets t) a b old new = subst (λ (x : Bool). Wrote x line.flushed line.frames.sent line.frames.held (all_packets t) a b old new) well g.wrote in
-    let now : Holds count frames.sent frames.held (all_packets t) a c old last = rw (none, all, same) (holds_flushed line.flushed line.frames.sent line.frames.held (all_packets t) a b c was h unfailed) in
+    let was : HoldsFrames line.flushed line.frames.sent line.frames.held (all_packets t) a b old new = subst (λ (x : Bool). Wrote x line.flushed line.frames.sent line.frames.held (all_packets t) a b old new) well g.wrote in
+    let now : HoldsFrames count frames.sent frames.held (all_packets t) a c old last = rw (none, all, same) (holds_flushed line.flushed line.frames.sent line.frames.held (all_packets t) a b c was h unfailed) in
     record {
       wrote = subst (λ (x : Bool). Wrote x count frames.sent frames.held (all_packets t) a c old last) (sym well) now;
       reply_mark = g.reply_mark;
@@ -197,7 +197,7 @@ flushed line t frames count a b c {old = old} {new = new} {last = last} well non
 pub broken : (line : Line) (t : List Message) (frames : FrameWriterValue) (a b c : Option (List ℕ)) {old new last : ℕ} → line.broken ≡ false → AppendsFront b c line.frames.held → last ≡ new + 1 → Progress line t a b old new
     → Progress (record { frames = frames; most = line.most; flushed = line.flushed; broken = true; replies_ended = line.replies_ended; data_ended = line.data_ended }) t a c old last
 broken line t frames a b c {old = old} {new = new} {last = last} well h failed g =
-    let was : Holds line.flushed line.frames.sent line.frames.held (all_packets t) a b old new = subst (λ (x : Bool). Wrote x line.flushed line.frames.sent line.frames.held (all_packets t) a b old new) well g.wrote in
+    let was : HoldsFrames line.flushed line.frames.sent line.frames.held (all_packets t) a b old new = subst (λ (x : Bool). Wrote x line.flushed line.frames.sent line.frames.held (all_packets t) a b old new) well g.wrote in
     record { wrote = holds_broken line.flushed line.frames.sent line.frames.held (all_packets t) a b c was h failed; reply_mark = g.reply_mark; data_mark = g.data_mark }
 
 -- a packet after a write failed
@@ -225,7 +225,7 @@ part_written line t a b {old = old} {new = new} off g = subst (λ (x : Bool). Wr
 -- before the first message
 pub nothing_yet : (line : Line) (a : Option (List ℕ)) (n : ℕ) → line.broken ≡ false → line.frames.sent ≡ 0 → line.flushed ≡ 0 → line.frames.held ≡ [] → line.replies_ended ≡ false → line.data_ended ≡ false → Progress line [] a a n n
 nothing_yet line a n well s f h r d =
-    let now : Holds line.flushed line.frames.sent line.frames.held [] a a n n = record { whole = []; later = []; all = refl; count = f; total = s; writes = appends_no_byte a; held_is = h; unfailed = refl } in
+    let now : HoldsFrames line.flushed line.frames.sent line.frames.held [] a a n n = record { whole = []; later = []; all = refl; count = f; total = s; writes = appends_no_byte a; held_is = h; unfailed = refl } in
     record { wrote = subst (λ (x : Bool). Wrote x line.flushed line.frames.sent line.frames.held [] a a n n) (sym well) now; reply_mark = r; data_mark = d }
 
 -- what is known of a message holds of one that is equal
@@ -247,7 +247,7 @@ no_data_end line t a b missing g = λ both. absurd (true≢false (sym both.1 ∙
 -- with no frame held, no packet is in hand
 pub none_in_hand : (line : Line) (t : List Message) (a b : Option (List ℕ)) {old new : ℕ} → (line.broken ≡ false → line.frames.held ≡ []) → Progress line t a b old new → NoneInHand line t
 none_in_hand line t a b {old = old} {new = new} none g well =
-    let w : Holds line.flushed line.frames.sent line.frames.held (all_packets t) a b old new = subst (λ (x : Bool). Wrote x line.flushed line.frames.sent line.frames.held (all_packets t) a b old new) well g.wrote in
+    let w : HoldsFrames line.flushed line.frames.sent line.frames.held (all_packets t) a b old new = subst (λ (x : Bool). Wrote x line.flushed line.frames.sent line.frames.held (all_packets t) a b old new) well g.wrote in
     let later : w.later ≡ [] = no_frames (length w.whole) w.later (sym (none well) ∙ w.held_is) in
     let same : w.whole ≡ all_packets t = sym (w.all ∙ (ap (λ (z : List (List ℕ)). w.whole ++ z) later ∙ append-nil w.whole)) in
     (none well, w.count ∙ ap (λ (z : List (List ℕ)). length z % 18446744073709551616) same)

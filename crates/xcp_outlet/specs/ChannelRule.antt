@@ -3,9 +3,9 @@ use Rattle.std.specs.Prelude.{ℕ, Bool, true, false, List, [], ◌∷◌, ◌++
 use Rattle.xcp_outlet.specs.declared.message.Message.{Message}
 
 -- what is in a message: the packets of its batch, or the end mark, which is None
-abbrev pub parts : Option (List (List ℕ)) → List (Option (List ℕ))
-parts None = None ∷ []
-parts (Some ps) = map Some ps
+abbrev pub message_parts : Option (List (List ℕ)) → List (Option (List ℕ))
+message_parts None = None ∷ []
+message_parts (Some ps) = map Some ps
 
 abbrev pub keep : Bool → Bool → List (Option (List ℕ)) → List (Option (List ℕ)) → List (Option (List ℕ))
 keep true true ps rest = ps ++ rest
@@ -16,4 +16,4 @@ keep false false ps rest = ps ++ rest
 -- what there is of one side in the messages, in order
 abbrev pub of : Bool → List Message → List (Option (List ℕ))
 of side [] = []
-of side (m ∷ ms) = keep side m.from_data (parts m.batch) (of side ms)
+of side (m ∷ ms) = keep side m.from_data (message_parts m.batch) (of side ms)

@@ -5,10 +5,10 @@ use Rattle.atomic_table.specs.declared.badge.Badge.{Badge}
 use Rattle.crossbeam_channel.specs.declared.flavors.array.Key.{Key}
 use Rattle.crossbeam_channel.specs.Claims.{Pass, view}
 use Rattle.xcp_outlet.specs.declared.message.Message.{Message}
-use Rattle.xcp_outlet.specs.PassKnowledge.{Half, Known, half, half_of}
+use Rattle.xcp_outlet.specs.PassKnowledge.{Half, PassKnown, half, half_of}
 
 -- what a pass knows
-abbrev pub knows : Pass Message Known → Known
+abbrev pub knows : Pass Message PassKnown → PassKnown
 knows p = view p
 
 -- which outlet it is
@@ -21,7 +21,7 @@ no_outlet =
     let table : TableId = record { words = 0; slots = 0; views_name = 0; atom = 0; block = 0; offset = 0; slot_names = [] } in
     (table, record { marker = record {}; table_id = table; id = 0; views = [] })
 
-abbrev pub outlet_of : Pass Message Known → Outlet
+abbrev pub outlet_of : Pass Message PassKnown → Outlet
 outlet_of p = (p.table_id, p.me.0.of)
 
 pub record EndSeen : Type 0 where
@@ -43,7 +43,7 @@ abbrev pub some_list : Option (List Message) → List Message
 some_list None = []
 some_list (Some t) = t
 
-abbrev pub putting_of : Bool → Bool → Pass Message Known → Putting
+abbrev pub putting_of : Bool → Bool → Pass Message PassKnown → Putting
 putting_of side ended p = record { outlet = outlet_of p; side = side; put = (some_half (half_of side (knows p))).put; ended = ended }
 
 -- what was taken, and what is known of either end
@@ -51,7 +51,7 @@ pub record Taking : Type 0 where
   pub outlet : Outlet
   pub taken : List Message
 
-abbrev pub taking_of : Pass Message Known → Taking
+abbrev pub taking_of : Pass Message PassKnown → Taking
 taking_of p = record { outlet = outlet_of p; taken = some_list (knows p).taken }
 
 -- the packets of one side in the messages

@@ -8,7 +8,7 @@ pub record Half : Type 0 where
   pub ended : Bool
 
 -- what the reply end has put, what the data end has put, and what was taken, for which a pass stands
-pub record Known : Type 0 where
+pub record PassKnown : Type 0 where
   pub reply : Option Half
   pub daq : Option Half
   pub taken : Option (List Message)
@@ -17,6 +17,6 @@ abbrev pub half : List (List ℕ) → Bool → Half
 half ps b = record { put = ps; ended = b }
 
 -- the half of the side: the data end's at true
-abbrev pub half_of : Bool → Known → Option Half
+abbrev pub half_of : Bool → PassKnown → Option Half
 half_of false v = v.reply
 half_of true v = v.daq

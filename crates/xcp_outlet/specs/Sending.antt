@@ -31,7 +31,7 @@ abbrev pub BothEnded : List Message → Type 0
 BothEnded taken = (has_mark (of false taken) ≡ true) × (has_mark (of true taken) ≡ true)
 
 -- what the end that takes says of the messages that it took
-abbrev pub Sends : Result ℕ SendError → List Message → Option (List ℕ) → Option (List ℕ) → ℕ → ℕ → Type 0
-Sends (Ok n) taken before after old new = WritesAll n (all_packets taken) before after old new × BothEnded taken
-Sends (Err (errors.Write n)) taken before after old new = WritesPart n (all_packets taken) before after old new
-Sends (Err (errors.Cut n)) taken before after old new = WritesAll n (all_packets taken) before after old new × ¬ BothEnded taken
+abbrev pub SendsMessages : Result ℕ SendError → List Message → Option (List ℕ) → Option (List ℕ) → ℕ → ℕ → Type 0
+SendsMessages (Ok n) taken before after old new = WritesAll n (all_packets taken) before after old new × BothEnded taken
+SendsMessages (Err (errors.Write n)) taken before after old new = WritesPart n (all_packets taken) before after old new
+SendsMessages (Err (errors.Cut n)) taken before after old new = WritesAll n (all_packets taken) before after old new × ¬ BothEnded taken

@@ -1,6 +1,6 @@
 //! A line that both ends of an outlet share: whoever puts also writes.
 ghost use Rattle.std.specs.Prelude.{◌≡◌, [], false};
-ghost use Rattle.xcp_outlet.specs.Sending.{Sends};
+ghost use Rattle.xcp_outlet.specs.Sending.{SendsMessages};
 ghost use Rattle.xcp_outlet.specs.private.SendingProgress.{NoneInHand};
 
 use crate::end::PutEnd;
@@ -8,7 +8,7 @@ use crate::forward::Forward;
 use crate::intake::{Intake, SendEnd};
 use crate::line::Line;
 use crate::line_name::LineName;
-use crate::sending::Sent;
+use crate::sending::SentPackets;
 use crate::side::Side;
 use std::io::Write;
 use std::marker::{Model, PhantomData};
@@ -67,9 +67,9 @@ impl<L: LineName, W: Write + Drop> Dispatch<L, W> {
     }
 
     /// Sends what both ends have put and nobody has sent yet, and takes no more. The writer comes back.
-    pub fn finish<R: Wait>(self, rt: &R) -> (Sent, Watched<W>)
+    pub fn finish<R: Wait>(self, rt: &R) -> (SentPackets, Watched<W>)
         ensures same { result.0.took.outlet ≡ L.outlet self.place }
-        ensures sends { Sends result.0.count result.0.took.taken
+        ensures sends { SendsMessages result.0.count result.0.took.taken
             (L.before self.place) (W.contents result.1.inner) (L.failures self.place) result.1.failures }
     {
         let mut dispatch = self;
@@ -81,7 +81,7 @@ impl<L: LineName, W: Write + Drop> Dispatch<L, W> {
             ..
         } = dispatch;
         let count = line.counted();
-        let sent = Sent {
+        let sent = SentPackets {
             count,
             took: intake.close(),
         };

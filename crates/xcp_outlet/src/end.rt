@@ -5,7 +5,7 @@ use crate::message::Message;
 use crate::opening::{Sender, Token};
 use crate::put::Put;
 use crate::rule::Puts;
-use crate::side::{Data, Replies, Side};
+use crate::side::{DataSide, Replies, Side};
 use std::alloc::Global;
 use std::marker::{Model, PhantomData};
 use std::sync::Wait;
@@ -15,7 +15,7 @@ use xcp_framing::Batch;
 pub type ReplyEnd = PutEnd<Replies>;
 
 /// The end that puts data packets.
-pub type DataEnd = PutEnd<Data>;
+pub type DataEnd = PutEnd<DataSide>;
 
 /// One of the two ends that put, with the pass that knows what it has put.
 #[derive(Drop)]
@@ -34,14 +34,14 @@ impl<S: Side> Model for PutEnd<S> {
     ghost use Rattle.xcp_outlet.specs.PassKnowledge.{half};
     ghost use Rattle.xcp_outlet.specs.private.KnownHalves.{one_half};
     ghost use Rattle.xcp_outlet.specs.OutletEnds.{EndSeen, knows};
-    ghost use Rattle.xcp_outlet.specs.private.EndOfPass.{end_of};
+    ghost use Rattle.xcp_outlet.specs.private.EndOfPass.{seen_end};
 
     ghost Value = { EndSeen };
 
-    ghost view = { λ e. end_of e.is_data e.pass };
+    ghost view = { λ e. seen_end e.is_data e.pass };
 
     ghost invariant = { λ e. IsSeatAt (sends_on e.sender) e.pass
-        × (knows e.pass ≡ one_half e.is_data (half (end_of e.is_data e.pass).put false))
+        × (knows e.pass ≡ one_half e.is_data (half (seen_end e.is_data e.pass).put false))
         × (e.is_data ≡ S.is_data) };
 }
 

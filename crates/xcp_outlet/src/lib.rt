@@ -38,6 +38,6 @@ pub use line_name::LineName;
 pub use opening::outlet;
 pub use put::Put;
 pub use putting::WaitingEnd;
-pub use sending::Sent;
-pub use side::{Data, Replies, Side};
+pub use sending::SentPackets;
+pub use side::{DataSide, Replies, Side};
 pub use took::Took;

@@ -1,8 +1,8 @@
 //! Frames of packets that were taken, from their making to their writing.
 ghost use Rattle.std.specs.Prelude.{◌≡◌, ◌≤◌, ℕ, Bool, List, Option, Some, [], ◌∷◌, ◌++◌, false, length};
-ghost use Rattle.xcp_framing.specs.FrameOutput.{Fits};
+ghost use Rattle.xcp_framing.specs.FrameOutput.{FindsRoom};
 ghost use Rattle.xcp_outlet.specs.declared.message.Message.{Message};
-ghost use Rattle.xcp_outlet.specs.Sending.{Sends};
+ghost use Rattle.xcp_outlet.specs.Sending.{SendsMessages};
 ghost use Rattle.xcp_outlet.specs.private.KnownHalves.{message};
 ghost use Rattle.xcp_outlet.specs.private.SendingProgress.{NoneInHand, Progress};
 
@@ -73,7 +73,7 @@ impl Line {
             before (W.contents writer.old.inner) failures writer.old.failures
             → Progress self.new taken
             before (W.contents writer.new.inner) failures writer.new.failures }
-        ensures room { self.new.broken ≡ false → Fits self.new.frames packet.now }
+        ensures room { self.new.broken ≡ false → FindsRoom self.new.frames packet.now }
     {
         if !self.frames.has_room_within(packet, self.most) {
             self.flush(writer);
@@ -139,7 +139,7 @@ impl Line {
         requires { self.now.broken ≡ false → self.now.frames.held ≡ [] }
         ensures { (before after : Option (List ℕ)) (old new : ℕ) (taken : List Message)
             → Progress self.now taken before after old new
-            → Sends result taken before after old new }
+            → SendsMessages result taken before after old new }
     {
         if self.broken {
             return Err(SendError::Write(self.flushed));

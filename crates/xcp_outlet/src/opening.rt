@@ -5,19 +5,19 @@ use crate::end::{DataEnd, PutEnd, ReplyEnd};
 use crate::intake::{Intake, SendEnd};
 use crate::message::Message;
 use crate::rule::Routes;
-use crate::side::{Data, Replies};
-use crate::view::View;
+use crate::side::{DataSide, Replies};
+use crate::view::PassView;
 use crossbeam_channel::{Pass, RuledReceiver, RuledSender, bounded_with};
 use std::alloc::{AllocError, Global};
 use std::marker::PhantomData;
 use xcp_framing::FrameWriter;
 
 /// What an end knows of the channel.
-pub(crate) type Token = Pass<Message, View>;
+pub(crate) type Token = Pass<Message, PassView>;
 
-pub(crate) type Sender = RuledSender<Message, View, Routes, Global>;
+pub(crate) type Sender = RuledSender<Message, PassView, Routes, Global>;
 
-pub(crate) type Receiver = RuledReceiver<Message, View, Routes, Global>;
+pub(crate) type Receiver = RuledReceiver<Message, PassView, Routes, Global>;
 
 /// The most messages that were put and not taken yet.
 const CAPACITY: usize = 64;
@@ -29,12 +29,12 @@ pub fn outlet(alloc: Global) -> Result<(ReplyEnd, DataEnd, SendEnd), AllocError>
     ensures taken { IfOk result (λ r. r.2.taken ≡ []) }
 {
     let frames = FrameWriter::new(alloc)?;
-    let (sender, receiver, mut pass) = bounded_with::<Message, View, Routes, Global>(
+    let (sender, receiver, mut pass) = bounded_with::<Message, PassView, Routes, Global>(
         alloc, CAPACITY,
     )?;
     let other = sender.try_clone()?;
     let replies = sender.another::<Replies>(&mut pass);
-    let data = sender.another::<Data>(&mut pass);
+    let data = sender.another::<DataSide>(&mut pass);
     Ok((
         PutEnd {
             is_data: false,

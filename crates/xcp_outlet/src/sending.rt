@@ -1,6 +1,6 @@
 //! The sender of a connection.
 ghost use Rattle.std.specs.Prelude.{◌≡◌, [], Err};
-ghost use Rattle.xcp_outlet.specs.Sending.{Sends};
+ghost use Rattle.xcp_outlet.specs.Sending.{SendsMessages};
 
 use crate::fault::SendError;
 use crate::intake::SendEnd;
@@ -15,7 +15,7 @@ const WRITE_SIZE: usize = 4096;
 
 /// What a sender has sent, and what it has taken.
 #[derive(Drop)]
-pub struct Sent {
+pub struct SentPackets {
     /// How many packets were sent, modulo 2^64.
     pub count: Result<u64, SendError>,
     pub took: Took,
@@ -26,9 +26,9 @@ impl SendEnd {
     /// marks came or a receive fails. Packets that are there at once are written together, and all
     /// that were taken are written before it waits for the next. After a failed write it goes on
     /// taking, and writes no more.
-    pub fn run_sender<R: Wait, W: Write>(self, rt: &R, writer: &mut Watched<W>) -> Sent
+    pub fn run_sender<R: Wait, W: Write>(self, rt: &R, writer: &mut Watched<W>) -> SentPackets
         ensures same { result.took.outlet ≡ self.outlet }
-        ensures sends { Sends result.count result.took.taken
+        ensures sends { SendsMessages result.count result.took.taken
             (W.contents writer.old.inner) (W.contents writer.new.inner)
             writer.old.failures writer.new.failures }
     {
@@ -50,7 +50,7 @@ impl SendEnd {
         }
         line.flush(writer);
         let count = line.counted();
-        Sent {
+        SentPackets {
             count,
             took: intake.close(),
         }
@@ -58,13 +58,13 @@ impl SendEnd {
 
     /// Takes nothing and writes nothing, as the sender of a connection whose threads never began:
     /// from now on each put fails. It waits for nothing.
-    pub fn give_up(self) -> Sent
+    pub fn give_up(self) -> SentPackets
         ensures same { result.took.outlet ≡ self.outlet }
         ensures none { result.took.taken ≡ [] }
         ensures cut { result.count ≡ Err (SendError.Cut 0) }
     {
         let (intake, _frames) = self.open();
-        Sent {
+        SentPackets {
             count: Err(SendError::Cut(0)),
             took: intake.close(),
         }

@@ -17,9 +17,9 @@ impl Side for Replies {
 }
 
 /// The side of the data packets, which a slave samples.
-pub struct Data;
+pub struct DataSide;
 
-impl Side for Data {
+impl Side for DataSide {
     ghost use Rattle.std.specs.Prelude.{true};
 
     ghost is_data = { true };

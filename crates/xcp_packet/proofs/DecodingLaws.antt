@@ -5,9 +5,9 @@ use Rattle.std.proofs.lemmas.Option.{none-some, same_Some}
 use Rattle.std.specs.Prelude.{nat_le}
 use Rattle.xcp_packet.specs.ByteOrder.{byte_at}
 use Rattle.xcp_packet.specs.CommandForms.{code, least}
-use Rattle.xcp_packet.specs.CommandSpelling.{Begins, spells}
+use Rattle.xcp_packet.specs.CommandSpelling.{BeginsCommand, spells}
 use Rattle.xcp_packet.specs.Decoding.{Refused, Decodes}
-use Rattle.xcp_packet.specs.private.DecodeByCode.{readings, coded, Reads}
+use Rattle.xcp_packet.specs.private.DecodeByCode.{readings, coded, ReadsCode}
 use Rattle.xcp_packet.proofs.ParameterLemmas.{reading, reading-stands, least-positive, coded-code}
 use Rattle.xcp_packet.specs.declared.order.Order.{Order}
 use Rattle.xcp_packet.specs.declared.command.Command.{Command}
@@ -29,14 +29,14 @@ least-code order p c d e =
 -- no bytes spell two commands
 pub spells_once : (order : Order) (p : List ℕ) (c d : Command) → spells order c p → spells order d p → c ≡ d
 spells_once order p c d h k =
-    let m : Begins (code c) (least c) p = h.0 in
-    let n : Begins (code d) (least d) p = k.0 in
+    let m : BeginsCommand (code c) (least c) p = h.0 in
+    let n : BeginsCommand (code d) (least d) p = k.0 in
     let same : code c ≡ code d = sym m.first ∙ n.first in
     same_Some _ _ (sym (reading-stands order p c h.1) ∙ ap (of_code order p) same ∙ reading-stands order p d k.1)
 
 -- what is spelt begins with the command's code, and is long enough
 pub spelling_begins : (order : Order) (c : Command) (p : List ℕ) → spells order c p → (byte_at 0 p ≡ code c) × (least c ≤ length p)
-spelling_begins order c p h = let m : Begins (code c) (least c) p = h.0 in (m.first, m.enough)
+spelling_begins order c p h = let m : BeginsCommand (code c) (least c) p = h.0 in (m.first, m.enough)
 
 -- with its code and enough bytes, a command of that code is spelt
 pub enough_is_spelt : (order : Order) (c : Command) (p : List ℕ) → byte_at 0 p ≡ code c → least c ≤ length p → (d : Command) × (code d ≡ code c) × spells order d p
@@ -47,14 +47,14 @@ enough_is_spelt order c p first enough =
 -- what is spelt isn't refused
 spelt-refused : (order : Order) (c : Command) (e : Refuse) (p : List ℕ) → spells order c p → Refused e p → ⊥
 spelt-refused order c Empty p h r =
-    let m : Begins (code c) (least c) p = h.0 in
+    let m : BeginsCommand (code c) (least c) p = h.0 in
     let some : 0 < least c = least-positive c in
     let none : length p ≡ 0 = ap length r in
     let enough : least c ≤ length p = m.enough in
     omega arith
-spelt-refused order c Unknown p h r = let m : Begins (code c) (least c) p = h.0 in r.1 c m.first
+spelt-refused order c Unknown p h r = let m : BeginsCommand (code c) (least c) p = h.0 in r.1 c m.first
 spelt-refused order c Short p h r =
-    let m : Begins (code c) (least c) p = h.0 in
+    let m : BeginsCommand (code c) (least c) p = h.0 in
     let enough : least c ≤ length p = m.enough in
     let short : length p < least r.1.0 = r.1.2 in
     let same : least c ≡ least r.1.0 = least-code order p c r.1.0 (sym m.first ∙ r.1.1) in
@@ -83,7 +83,7 @@ cut order p None e h = absurd h
 cut order p (Some c) e h = (c, coded-code (readings order p) (byte_at 0 p) c e, h)
 
 -- a packet decodes to what is read of it
-reads-decodes : (order : Order) (p : List ℕ) (a : Result Command Refuse) → Reads order p a → Decodes order p a
+reads-decodes : (order : Order) (p : List ℕ) (a : Result Command Refuse) → ReadsCode order p a → Decodes order p a
 reads-decodes order p (Ok c) h = h
 reads-decodes order p (Err Empty) h = h
 reads-decodes order p (Err Unknown) h =
@@ -91,7 +91,7 @@ reads-decodes order p (Err Unknown) h =
 reads-decodes order p (Err Short) h = (h.0, cut order p (of_code order p (byte_at 0 p)) refl h.1)
 
 -- so an answer that is read is the one
-pub exactly : (order : Order) (p : List ℕ) (a : Result Command Refuse) → Reads order p a → (b : Result Command Refuse) → (a ≡ b) ↔ Decodes order p b
+pub exactly : (order : Order) (p : List ℕ) (a : Result Command Refuse) → ReadsCode order p a → (b : Result Command Refuse) → (a ≡ b) ↔ Decodes order p b
 exactly order p a h b =
     let d : Decodes order p a = reads-decodes order p a h in
     (λ e. subst (λ (x : Result Command Refuse). Decodes order p x) e d, decodes_once order p a b d)

@@ -4,7 +4,7 @@ use Rattle.std.proofs.lemmas.Bool.Decides.{nat_tests}
 use Rattle.std.proofs.lemmas.Option.{none-some, same_Some}
 use Rattle.xcp_packet.specs.ByteOrder.{byte_at, word_at, double_at}
 use Rattle.xcp_packet.specs.CommandForms.{Parameter, byte, word, double, rest, code, least, parameters}
-use Rattle.xcp_packet.specs.CommandSpelling.{Stands, AllStand}
+use Rattle.xcp_packet.specs.CommandSpelling.{HasParameter, AllStand}
 use Rattle.xcp_packet.specs.private.DecodeByCode.{readings, coded}
 use Rattle.xcp_packet.specs.declared.order.Order.{Order}
 use Rattle.xcp_packet.specs.declared.command.Command.{Command}
@@ -30,7 +30,7 @@ filled-stand order p (word place _ ∷ xs) = (refl, filled-stand order p xs)
 filled-stand order p (double place _ ∷ xs) = (refl, filled-stand order p xs)
 filled-stand order p (rest place _ ∷ xs) = (refl, filled-stand order p xs)
 
-one_stands : (order : Order) (p : List ℕ) (x : Parameter) → Stands order x p → filled order p x ≡ x
+one_stands : (order : Order) (p : List ℕ) (x : Parameter) → HasParameter order x p → filled order p x ≡ x
 one_stands order p (byte place x) h = ap (byte place) (sym h)
 one_stands order p (word place x) h = ap (word place) (sym h)
 one_stands order p (double place x) h = ap (double place) (sym h)

@@ -6,9 +6,9 @@ use Rattle.std.proofs.Math.Seq.{drop-append_seam, get_or-append_seam}
 use Rattle.std.specs.Prelude.{nat_le, ⊤}
 use Rattle.xcp_packet.specs.ByteOrder.{word_bytes, double_bytes}
 use Rattle.xcp_packet.specs.CommandForms.{Parameter, byte, word, double, rest, code, least, parameters}
-use Rattle.xcp_packet.specs.CommandSpelling.{Stands, AllStand, spells}
+use Rattle.xcp_packet.specs.CommandSpelling.{HasParameter, AllStand, spells}
 use Rattle.xcp_packet.specs.PlainSpelling.{place_of, width_of, bytes_in, laid, plain, end_of, plain_length, HasWidth, AllHaveWidth, HasWidths}
-use Rattle.xcp_packet.specs.private.EncodeByParameter.{up_to, start, put, joined, built}
+use Rattle.xcp_packet.specs.private.EncodeByParameter.{up_to, start, put, with_parameters, built}
 use Rattle.xcp_packet.proofs.ByteOrderLemmas.{length-bytes_of, reads_back}
 use Rattle.xcp_packet.specs.declared.order.Order.{Order}
 use Rattle.xcp_packet.specs.declared.command.Command.{Command}
@@ -62,7 +62,7 @@ length-bytes_in order (double place x) = length-bytes_of order 4 x
 length-bytes_in order (rest place bytes) = refl
 
 -- behind a list as long as its place, a parameter's bytes stand at its place
-stands_there : (order : Order) (x : Parameter) (xs : List Parameter) (q r : List ℕ) → length q ≡ place_of x → HasWidth x → Ends x xs → (xs ≡ [] → r ≡ []) → Stands order x (q ++ (bytes_in order x ++ r))
+stands_there : (order : Order) (x : Parameter) (xs : List Parameter) (q r : List ℕ) → length q ≡ place_of x → HasWidth x → Ends x xs → (xs ≡ [] → r ≡ []) → HasParameter order x (q ++ (bytes_in order x ++ r))
 stands_there order (byte place x) xs q r e w last none = rw (← e) (sym (get_or-append_seam q x r 0))
 stands_there order (word place x) xs q r e w last none = rw (← e, drop-append_seam q (word_bytes order x ++ r)) (sym (reads_back order 2 x r w))
 stands_there order (double place x) xs q r e w last none = rw (← e, drop-append_seam q (double_bytes order x ++ r)) (sym (reads_back order 4 x r w))
@@ -125,13 +125,13 @@ spells_plain order c h =
     let e : length (plain order c) ≡ plain_length c = length_plain order c in
     (record { first = refl; enough = omega arith }, all_stand order 1 (least c) (parameters c) (code c ∷ []) refl (command-placed c) h)
 
-joined_laid : (order : Order) (at n : ℕ) (xs : List Parameter) (q : List ℕ) → length q ≡ at → Placed at n xs → joined order q xs ≡ q ++ laid order at xs
+joined_laid : (order : Order) (at n : ℕ) (xs : List Parameter) (q : List ℕ) → length q ≡ at → Placed at n xs → with_parameters order q xs ≡ q ++ laid order at xs
 unfolding up_to put
 joined_laid order at n [] q e h = sym (append-nil q)
 joined_laid order at n (x ∷ xs) q e h =
     let same : put q (place_of x) (bytes_in order x) ≡ grown order at q x = rw e refl in
     let later = joined_laid order (place_of x + width_of x) n xs (grown order at q x) (length-grown order at q x e h.0) h.2 in
-    ap (λ (p : List ℕ). joined order p xs) same ∙ later ∙ regroup q (replicate (place_of x - at) 0) (bytes_in order x) (laid order (place_of x + width_of x) xs)
+    ap (λ (p : List ℕ). with_parameters order p xs) same ∙ later ∙ regroup q (replicate (place_of x - at) 0) (bytes_in order x) (laid order (place_of x + width_of x) xs)
 
 -- what is put together is the plain spelling
 pub built_plain : (order : Order) (c : Command) → built order c ≡ plain order c

@@ -6,7 +6,7 @@ use Rattle.std.proofs.lemmas.List.{append-nil}
 use Rattle.std.proofs.lemmas.List.Elements.{All-cons, All-nil}
 use Rattle.xcp_packet.specs.BlockPacketLemmas.{block_begins, block_joined, block_positive, block_sized}
 use Rattle.xcp_packet.specs.ReplyPacket.{layout, data_length}
-use Rattle.xcp_packet.specs.ReplyInBytes.{IsPlain, packets_of}
+use Rattle.xcp_packet.specs.ReplyInBytes.{TellsNoRead, packets_of}
 use Rattle.xcp_packet.proofs.ByteOrderLemmas.{length-bytes_of}
 use Rattle.xcp_packet.specs.declared.order.Order.{Order}
 use Rattle.xcp_packet.specs.declared.reply.Reply.{Reply}
@@ -24,7 +24,7 @@ layout_filled order Done = omega arith
 layout_filled order reply = omega arith
 
 -- any reply but that of bytes is one packet
-pub plain_packets : (order : Order) (width : ℕ) (reply : Reply) → IsPlain reply → packets_of order width reply ≡ layout order reply ∷ []
+pub plain_packets : (order : Order) (width : ℕ) (reply : Reply) → TellsNoRead reply → packets_of order width reply ≡ layout order reply ∷ []
 plain_packets order width (Bytes bytes) h = absurd h
 plain_packets order width reply h = refl
 
@@ -68,6 +68,7 @@ single-within : (order : Order) (n : ℕ) (reply : Reply) → 8 ≤ n → data_l
 single-within order n reply eight none =
     All-cons (Within n) (layout order reply) [] (layout_filled order reply, layout_fits order reply n eight (omega arith)) (All-nil (Within n))
 
+-- no packet of a reply, with at most n - 1 data bytes in each, is empty or longer than n, where n is at least 8
 pub packets_within : (order : Order) (n : ℕ) (reply : Reply) → 8 ≤ n → All (Within n) (packets_of order (n - 1) reply)
 packets_within order n (Bytes bytes) eight = λ k d h. let s = block_sized (n - 1) bytes.items (omega arith) k d h in (s.some, let m = s.most in omega arith)
 packets_within order n reply eight = single-within order n reply eight refl

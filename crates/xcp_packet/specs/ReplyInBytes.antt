@@ -5,13 +5,13 @@ use Rattle.xcp_packet.specs.declared.reply.Reply.{Reply}
 use Rattle.xcp_packet.specs.declared.reply.Reply.TheVariants.{Bytes, Error, ErrorCount, ErrorBlockSize}
 use Rattle.xcp_packet.specs.declared.lent.Sent.{Sent}
 use Rattle.xcp_packet.specs.declared.lent.Sent.TheVariants.{Lent, Block, Nothing}
-use Rattle.xcp_packet.specs.declared.lent.Fault.{Fault}
-use Rattle.xcp_packet.specs.declared.lent.Fault.TheVariants.{Code, Count, BlockSize}
+use Rattle.xcp_packet.specs.declared.lent.CommandError.{CommandError}
+use Rattle.xcp_packet.specs.declared.lent.CommandError.TheVariants.{Code, Count, BlockSize}
 use Rattle.xcp_packet.specs.ReplyPacket.{layout}
 use Rattle.xcp_packet.specs.PacketTrains.{block_packets}
 
 -- the error packet of a refusal
-abbrev pub fault_reply : Fault → Reply
+abbrev pub fault_reply : CommandError → Reply
 fault_reply (Code code) = Error code
 fault_reply (Count code count) = ErrorCount code count
 fault_reply (BlockSize code size) = ErrorBlockSize code size
@@ -35,6 +35,6 @@ reply_packets order width None = None
 reply_packets order width (Some reply) = Some (packets_of order width reply)
 
 -- the reply tells no bytes that were read
-abbrev pub IsPlain : Reply → Type 0
-IsPlain (Bytes bytes) = ⊥
-IsPlain reply = Unit {0}
+abbrev pub TellsNoRead : Reply → Type 0
+TellsNoRead (Bytes bytes) = ⊥
+TellsNoRead reply = Unit {0}

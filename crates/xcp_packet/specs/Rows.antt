@@ -6,7 +6,7 @@ use Rattle.xcp_packet.specs.declared.reply.Reply.{Reply}
 use Rattle.xcp_packet.specs.declared.reply.Reply.TheVariants.{Error}
 use Rattle.xcp_packet.specs.declared.order.Order.{Order}
 use Rattle.xcp_packet.specs.declared.lent.Sent.{Sent}
-use Rattle.xcp_packet.specs.declared.lent.Fault.{Fault}
+use Rattle.xcp_packet.specs.declared.lent.CommandError.{CommandError}
 use Rattle.xcp_packet.specs.ReplyInBytes.{fault_reply, sent_packets, reply_packets}
 
 -- what stands beside the first test that holds, where one does
@@ -38,7 +38,7 @@ Meets r left (Err e) w = (first_holding r.refusals ≡ Some e) × (w ≡ left)
 
 -- The same where the reply stands in a packet that was lent, which then has these bytes, in this byte order and with at most
 -- `width` data bytes a packet. A refusal says nothing of them.
-abbrev pub Tells : {V : Type 0} → Order → ℕ → Row V → V → Result Sent Fault → List ℕ → V → Type 0
+abbrev pub Tells : {V : Type 0} → Order → ℕ → Row V → V → Result Sent CommandError → List ℕ → V → Type 0
 Tells order width r left (Ok sent) bytes w = (first_holding r.refusals ≡ None) × (sent_packets sent bytes ≡ reply_packets order width r.reply) × (w ≡ r.after)
 Tells order width r left (Err fault) bytes w = (first_holding r.refusals ≡ Some (fault_reply fault)) × (w ≡ left)
 

@@ -1,6 +1,6 @@
 //! From bytes to a command.
 ghost use Rattle.std.specs.Prelude.{◌≡◌, ◌≤◌, ◌↔◌, length, drop};
-ghost use Rattle.xcp_packet.specs.private.DecodeByCode.{Reads};
+ghost use Rattle.xcp_packet.specs.private.DecodeByCode.{ReadsCode};
 ghost use Rattle.xcp_packet.specs.Decoding.{Refused};
 ghost use Rattle.xcp_packet.specs.CommandSpelling.{spells};
 
@@ -32,7 +32,7 @@ macro_rules! read_by_code {
 
 fn read(bytes: &[u8], order: Order) -> Result<Command, Refuse>
     requires { length bytes.now ≤ 255 }
-    ensures { Reads order bytes.now result }
+    ensures { ReadsCode order bytes.now result }
 {
     let Some(&code) = bytes.first() else {
         return Err(Refuse::Empty);

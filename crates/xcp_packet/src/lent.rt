@@ -20,7 +20,7 @@ pub enum Sent {
 
 /// Why a command is refused, as its error packet tells it.
 #[derive(Clone, Copy, Debug, PartialEq, Eq)]
-pub enum Fault {
+pub enum CommandError {
     /// An error code.
     Code(Code),
     /// An error code, and the number of data elements that DOWNLOAD_NEXT was expected to tell.
@@ -29,23 +29,23 @@ pub enum Fault {
     BlockSize(Code, u32),
 }
 
-impl From<Code> for Fault {
-    ghost use Rattle.xcp_packet.specs.declared.lent.Fault.TheVariants as faults;
+impl From<Code> for CommandError {
+    ghost use Rattle.xcp_packet.specs.declared.lent.CommandError.TheVariants as faults;
 
     ghost from_gives = { λ code fault. fault ≡ faults.Code code };
 
-    fn from(code: Code) -> Fault {
-        Fault::Code(code)
+    fn from(code: Code) -> CommandError {
+        CommandError::Code(code)
     }
 }
 
 /// Makes the error packet of a refusal the packet's bytes.
-pub fn write_fault(packet: &mut Packet, fault: Fault, order: Order)
+pub fn write_fault(packet: &mut Packet, fault: CommandError, order: Order)
     ensures { packet.new.items ≡ layout order (fault_reply fault) }
 {
     match fault {
-        Fault::Code(code) => write_error(packet, code),
-        Fault::Count(code, count) => write_error_count(packet, code, count),
-        Fault::BlockSize(code, size) => write_error_block_size(packet, code, size, order),
+        CommandError::Code(code) => write_error(packet, code),
+        CommandError::Count(code, count) => write_error_count(packet, code, count),
+        CommandError::BlockSize(code, size) => write_error_block_size(packet, code, size, order),
     }
 }

@@ -61,6 +61,7 @@ same_number found command option n m h k = h.number ∙ ap (λ (t : Text). digit
 pub has_spelt_in : (found : Option (Text × List Row)) (command : Text) (o : Numeric) (n m : ℕ) → HasNumberIn found command o n → SpellsIn found command o.name m → HasNumberIn found command o m
 has_spelt_in found command o n m h k = subst (λ (x : ℕ). HasNumberIn found command o x) (same_number found command o.name n m h.spelt k) h
 
+-- the number that the text of an option of `serve` spells is the one that it has
 pub has_spelt : (found : Option (Text × List Row)) (o : Numeric) (n m : ℕ) → HasNumber found o n → Spells found o.name m → HasNumber found o m
 has_spelt found = has_spelt_in found (codes "serve")
 
@@ -68,12 +69,15 @@ has_spelt found = has_spelt_in found (codes "serve")
 pub named_apart : (a b : Text) (found : Option (Text × List Row)) → option_map (λ p. p.0) found ≡ Some a → option_map (λ p. p.0) found ≡ Some b → (a ≡ b → ⊥) → ⊥
 named_apart a b found h k apart = apart (some_is a b (sym h ∙ k))
 
+-- `replay` is another name than `serve`
 pub no_replay : codes "replay" ≡ codes "serve" → ⊥
 no_replay e = cc
 
+-- `describe` is another name than `serve`
 pub no_description : codes "describe" ≡ codes "serve" → ⊥
 no_description e = cc
 
+-- `audit` is another name than `serve`
 pub no_audit : codes "audit" ≡ codes "serve" → ⊥
 no_audit e = let first : 97 ≡ 115 = ap (λ (t : Text). slice_index t 0) e in absurd (omega (arith, first))
 

@@ -252,6 +252,7 @@ whole_parts l =
     ∙ append_assoc (own ++ segments) signals (events ++ (extras ++ class))
     ∙ append_assoc own segments (signals ++ (events ++ (extras ++ class)))
 
+-- lawful layouts that are decided by the same bytes are the same, with the A2L files that tools get of them
 pub one_layout : (l m : LayoutValue) → IsLayout l → IsLayout m → answers_decided l ≡ answers_decided m → uploading l ≡ uploading m
 one_layout l m p q h =
     let a = p.segments_most in
@@ -284,5 +285,6 @@ uploaded : (l : LayoutValue) → answers_decided l ≡ answers_decided (uploadin
 unfolding answers_decided own_decided signals_decided extras_decided
 uploaded l = refl
 
+-- layouts that are the same with the A2L files that tools get of them are decided by the same bytes
 pub same_bytes_of : (l m : LayoutValue) → uploading l ≡ uploading m → answers_decided l ≡ answers_decided m
 same_bytes_of l m h = uploaded l ∙ ap answers_decided h ∙ sym (uploaded m)

@@ -2,7 +2,7 @@
 use Rattle.std.proofs.Common.{◌≡◌, ◌⊎◌, inl, inr, Bool, true, false, true≢false, codes, List, Option, Result, Ok, Err, IfOk, IfErr, refl, sym, ◌∙◌, ap}
 use Rattle.clap.specs.Words.{Row, Text}
 use Rattle.xcp_program.specs.CommandLine.{Asks, AsksFew, AsksForOneFile, AsksToCut, AsksToEnd, AsksToStay, AsksTooMany, CutsAJournal, IsRefusedFor, chapter, cycles, gives}
-use Rattle.xcp_program.specs.private.AppArguments.{IsRefusal}
+use Rattle.xcp_program.specs.private.AppArguments.{IsAskedRefusal}
 use Rattle.xcp_program.specs.declared.purpose.Options.{Options}
 use Rattle.xcp_program.specs.declared.purpose.Options.TheVariants.{Audit, Describe, Replay, Serve, Stay}
 use Rattle.xcp_program.specs.declared.purpose.OptionsFault.{OptionsFault}
@@ -57,7 +57,7 @@ module _ (found : Option (Text × List Row)) where
     | inr stays ↦ cuts_cut stays.cuts a
   ]
 
-  one_refusal : (e f : OptionsFault) → IsRefusal found e → IsRefusedFor found f → (e ≡ f) ⊎ (e ≡ Memory)
+  one_refusal : (e f : OptionsFault) → IsAskedRefusal found e → IsRefusedFor found f → (e ≡ f) ⊎ (e ≡ Memory)
   one_refusal e Memory h k = absurd k
   one_refusal e (Words w) h k = absurd k
   one_refusal Memory f h k = inr refl
@@ -122,7 +122,7 @@ module _ (found : Option (Text × List Row)) where
   unrefused o OneFile h k = (files_apart found o h).1 k.one
 
   -- so a fault comes where the words are refused for it, but for want of memory
-  pub told : (r : Result Options OptionsFault) → IfOk r (λ o. Asks found o) → IfErr r (λ e. IsRefusal found e) → (f : OptionsFault) → IsRefusedFor found f → (r ≡ Err f) ⊎ (r ≡ Err Memory)
+  pub told : (r : Result Options OptionsFault) → IfOk r (λ o. Asks found o) → IfErr r (λ e. IsAskedRefusal found e) → (f : OptionsFault) → IsRefusedFor found f → (r ≡ Err f) ⊎ (r ≡ Err Memory)
   told (Ok o) h k f because = absurd (unrefused o f h because)
   told (Err e) h k f because = elim (one_refusal e f k because) [
     | inl same ↦ inl (ap Err same)

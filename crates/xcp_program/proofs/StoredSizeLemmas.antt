@@ -18,6 +18,7 @@ most : (c : Class) → 4 * (limits_of c).segments + (limits_of c).bytes ≤ 1048
 most Papers = omega arith
 most Large = omega arith
 
+-- the file of a lawful layout's pages has at most 1048710 bytes
 pub each_file : (pages : List (List ℕ)) (l : LayoutValue) → IsLayout l → AreReferences pages l → file_size (map (λ page. length page) pages) ≤ 1048710
 each_file pages l lawful fits =
     let same = ap pages_size fits ∙ sizes l.segments in

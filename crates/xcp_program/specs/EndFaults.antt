@@ -1,7 +1,7 @@
 -- The fault with which a server ends.
 use Rattle.std.specs.Prelude.{ℕ, Bool, true, false, Option, Some, None, Result, Ok, Err}
 use Rattle.std.specs.Option.{option_or}
-use Rattle.xcp_program.specs.ExitStatus.{status_of}
+use Rattle.xcp_program.specs.ExitStatus.{exit_status}
 use Rattle.xcp_program.specs.declared.fault.Fault.{Fault}
 use Rattle.xcp_program.specs.declared.fault.Fault.TheVariants.{Flash, Journal, Stream}
 
@@ -33,4 +33,4 @@ fault_at_stop printed journal pages = option_or journal (option_or pages (fault_
 -- the status with which the program ends
 abbrev pub status_at_end : Option Fault → ℕ
 status_at_end None = 0
-status_at_end (Some fault) = status_of fault
+status_at_end (Some fault) = exit_status fault

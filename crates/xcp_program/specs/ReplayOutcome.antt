@@ -5,7 +5,7 @@ use Rattle.xcp_memory.specs.Layout.{LayoutValue, A2lFileValue}
 use Rattle.xcp_slave.specs.SlaveValue.{SlaveValue, opening}
 use Rattle.xcp_slave.specs.Run.{Run, requests_of}
 use Rattle.xcp_slave.specs.declared.Exchange.{Exchange}
-use Rattle.xcp_script.specs.Replay.{EndsShort, OfLines, Replayed, Tells, asked}
+use Rattle.xcp_script.specs.Replay.{EndsShort, OfLines, Replayed, TellsAnswers, asked}
 use Rattle.xcp_script.specs.AnswerText.{answers_text}
 use Rattle.xcp_script.specs.declared.ReplayError.{ReplayError}
 use Rattle.xcp_script.specs.declared.ReplayError.TheVariants as errors
@@ -26,7 +26,7 @@ pub record AnswersScript (layout : LayoutValue) (script old new : Option (List �
   pub slave : SlaveValue
   pub run : Run (opening layout) exchanges slave
   pub asked : OfLines script (λ lines. Replayed layout.max_cto lines ended (requests_of exchanges))
-  pub written : Tells ended old new (answers_text exchanges)
+  pub written : TellsAnswers ended old new (answers_text exchanges)
 
 -- the same, for the layout that the slave begins with
 pub record ReplaysWith (files : List File) (config : List ℕ) (a2l : Option A2lFileValue) (flash : Option (List ℕ)) (script old new : Option (List ℕ)) (ended : Result ℕ ReplayError) : Type 0 where

@@ -5,7 +5,7 @@ ghost use Rattle.clap.specs.Words.{app_of, kind_of, subcommand_of, subcommand_ro
 ghost use Rattle.clap.specs.Words.{fault_of as faults_in};
 ghost use Rattle.clap.specs.declared.builder.command.Command.TheViews.{out-Command as fields_of};
 ghost use Rattle.xcp_program.specs.CommandLine.{Asks, AsksTooMany, GivesOneFile, HasTwoFiles, InRange, IsMistake, IsRefusedFor};
-ghost use Rattle.xcp_program.specs.private.AppArguments.{AsksAudit, AsksDescription, AsksReplay, AsksSomething, IsRefusal, front_app};
+ghost use Rattle.xcp_program.specs.private.AppArguments.{AsksAudit, AsksDescription, AsksReplay, AsksSomething, IsAskedRefusal, front_app};
 ghost use Rattle.xcp_program.specs.CommandLine.{audit_app, describe_app, program, replay_app};
 
 use crate::arguments::{choice, config_option, file_word, flag, host_option, numeric};
@@ -187,7 +187,7 @@ fn fault_of(e: Error) -> OptionsFault
 fn asked(alloc: Global, matches: &ArgMatches<'_>) -> Result<Options, OptionsFault>
     requires { AsksSomething (subcommand_rows_of matches.now) }
     ensures asked { IfOk result (λ o. Asks (subcommand_rows_of matches.now) o) }
-    ensures refused { IfErr result (λ e. IsRefusal (subcommand_rows_of matches.now) e) }
+    ensures refused { IfErr result (λ e. IsAskedRefusal (subcommand_rows_of matches.now) e) }
 {
     match text_in(matches, "replay", "config") {
         Some(_) => replay_asked(alloc, matches),

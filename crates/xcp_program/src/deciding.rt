@@ -45,7 +45,7 @@ fn give_own(hasher: &mut Sha256, layout: &Layout)
     hasher.update(&[
         layout.max_cto(),
         layout.max_dto(),
-        layout.checksum().number(),
+        layout.checksum_kind().number(),
         layout.order().bit(),
         clock.stamp.size(),
         clock.unit,

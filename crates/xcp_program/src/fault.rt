@@ -55,11 +55,11 @@ pub enum Fault {
 }
 
 impl Fault {
-    ghost use Rattle.xcp_program.specs.ExitStatus.{status_of};
+    ghost use Rattle.xcp_program.specs.ExitStatus.{exit_status};
 
     /// The status with which the program ends, 1 to 6.
     pub fn status(&self) -> u8
-        ensures { result ≡ status_of self.now }
+        ensures { result ≡ exit_status self.now }
     {
         match self {
             Fault::Configuration(_) | Fault::Clock => 1,

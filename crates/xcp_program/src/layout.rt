@@ -78,7 +78,7 @@ fn with_a2l(mut layout: Layout, a2l: Option<A2lFile>) -> Layout
 {
     if let Some(file) = a2l {
         if layout.extras().uploads_a2l() {
-            layout.describe(file);
+            layout.set_a2l_file(file);
         }
     }
     layout

@@ -4,7 +4,7 @@ ghost use Rattle.clap.specs.Facts.{explicit_source};
 ghost use Rattle.clap.specs.Words.{app_of, subcommand_rows_of};
 ghost use Rattle.clap.specs.declared.builder.command.Command.TheViews.{out-Command as fields_of};
 ghost use Rattle.xcp_program.specs.CommandLine.{Asks, AsksFew, AsksTooMany, CutsAJournal, GivesOneFile, HasFile, HasFlash, HasHost, HasJournal, HasText, IsOneFile, Spells, Stays, cut_every, gives, gives_to_stay, most_tools, serve_app};
-ghost use Rattle.xcp_program.specs.private.AppArguments.{AsksServe, IsRefusal, counted_app, kept_app, placed_app};
+ghost use Rattle.xcp_program.specs.private.AppArguments.{AsksServe, IsAskedRefusal, counted_app, kept_app, placed_app};
 
 use crate::arguments::{choice, config_option, flag, host_option, numeric};
 use crate::fault_words::help;
@@ -297,7 +297,7 @@ fn names_in(
 pub fn server_asked(alloc: Global, matches: &ArgMatches<'_>) -> Result<Options, OptionsFault>
     requires { AsksServe (subcommand_rows_of matches.now) }
     ensures asked { IfOk result (λ o. Asks (subcommand_rows_of matches.now) o) }
-    ensures refused { IfErr result (λ e. IsRefusal (subcommand_rows_of matches.now) e) }
+    ensures refused { IfErr result (λ e. IsAskedRefusal (subcommand_rows_of matches.now) e) }
 {
     if !is_few(matches) {
         return Err(OptionsFault::TooManyTools);
@@ -315,7 +315,7 @@ fn stay_asked(alloc: Global, matches: &ArgMatches<'_>) -> Result<Options, Option
     requires few { AsksFew (subcommand_rows_of matches.now) }
     requires stays { Stays (subcommand_rows_of matches.now) }
     ensures asked { IfOk result (λ o. Asks (subcommand_rows_of matches.now) o) }
-    ensures refused { IfErr result (λ e. IsRefusal (subcommand_rows_of matches.now) e) }
+    ensures refused { IfErr result (λ e. IsAskedRefusal (subcommand_rows_of matches.now) e) }
 {
     if gives(matches, "cycles") || gives(matches, "chapter") {
         return Err(OptionsFault::NotForStay);
@@ -352,7 +352,7 @@ fn end_asked(alloc: Global, matches: &ArgMatches<'_>) -> Result<Options, Options
     requires few { AsksFew (subcommand_rows_of matches.now) }
     requires ends { ¬ (Stays (subcommand_rows_of matches.now)) }
     ensures asked { IfOk result (λ o. Asks (subcommand_rows_of matches.now) o) }
-    ensures refused { IfErr result (λ e. IsRefusal (subcommand_rows_of matches.now) e) }
+    ensures refused { IfErr result (λ e. IsAskedRefusal (subcommand_rows_of matches.now) e) }
 {
     if gives_to_stay(matches) {
         return Err(OptionsFault::OnlyForStay);

@@ -93,7 +93,7 @@ impl From<OptionsFault> for Unasked {
 }
 
 /// Why the system gave no words: `NoText` exactly where it says that the bytes of one are no text.
-fn unread(e: &io::Error) -> Unasked
+fn no_words(e: &io::Error) -> Unasked
     ensures text { error_kind e.now ≡ ErrorKind.InvalidData → result ≡ Unasked.NoText }
     ensures memory { ¬ (error_kind e.now ≡ ErrorKind.InvalidData) → result ≡ Unasked.Memory }
 {
@@ -137,6 +137,6 @@ pub fn asked(alloc: Global, words: io::Result<Vec<String>>) -> Result<Options, U
 {
     match words {
         Ok(given) => Ok(options(alloc, given.as_slice())?),
-        Err(e) => Err(unread(&e)),
+        Err(e) => Err(no_words(&e)),
     }
 }

@@ -9,7 +9,7 @@ use Rattle.xcp_trace.specs.EntrySpelling.{entry_in}
 use Rattle.xcp_trace.specs.Tape.{framed}
 use Rattle.xcp_record.specs.JournalFile.{exchanges}
 use Rattle.xcp_record.specs.Audit.{Differs}
-use Rattle.xcp_record.specs.private.Calls.{Spells, Walks}
+use Rattle.xcp_record.specs.private.Calls.{SpellsCalls, Walks}
 use Rattle.xcp_record.proofs.TapeLemmas.{spelt_same}
 use Rattle.xcp_record.proofs.CallLemmas.{first_is, goes_on, walks_all}
 use Rattle.xcp_record.proofs.FileLemmas.{run_on}
@@ -24,13 +24,13 @@ run_more v mid w done s call is run answers =
 
 -- all calls are checked
 pub checked_all : (v w : SlaveValue) (bytes left : List ℕ) (n : ℕ) (walks : Walks bytes left n) → Run v (exchanges (map entry_in walks.done)) w → left ≡ []
-    → (strings : List (List ℕ)) → Spells bytes strings → Run v (exchanges (map entry_in strings)) w
+    → (strings : List (List ℕ)) → SpellsCalls bytes strings → Run v (exchanges (map entry_in strings)) w
 checked_all v w bytes left n walks run none strings spells =
     subst (λ ss. Run v (exchanges (map entry_in ss)) w) (spelt_same walks.done strings ((walks_all bytes left n walks none).whole ∙ sym spells.whole)) run
 
 -- this call differs
 pub differs_here : (v mid : SlaveValue) (bytes left more s : List ℕ) (n : ℕ) (call : Entry) (walks : Walks bytes left n) → Run v (exchanges (map entry_in walks.done)) mid → left ≡ framed s ++ more
-    → call ≡ entry_in s → ((w : SlaveValue) → Answers mid call.exchange.request call.exchange.answer w → ⊥) → (strings : List (List ℕ)) → Spells bytes strings → Differs v (map entry_in strings) n
+    → call ≡ entry_in s → ((w : SlaveValue) → Answers mid call.exchange.request call.exchange.answer w → ⊥) → (strings : List (List ℕ)) → SpellsCalls bytes strings → Differs v (map entry_in strings) n
 differs_here v mid bytes left more s n call walks run next is other strings spells =
     let on = goes_on bytes left walks.done strings spells walks.joined in
     let first = first_is left more s on.0 on.2 next in record {
@@ -45,7 +45,7 @@ differs_here v mid bytes left more s n call walks run next is other strings spel
     }
 
 -- there are no more calls than the chapter may have
-pub few_checked : (bytes left : List ℕ) (n most : ℕ) (strings : List (List ℕ)) → Walks bytes left n → Spells bytes strings → length strings ≤ most → n ≤ most
+pub few_checked : (bytes left : List ℕ) (n most : ℕ) (strings : List (List ℕ)) → Walks bytes left n → SpellsCalls bytes strings → length strings ≤ most → n ≤ most
 few_checked bytes left n most strings walks spells few =
     let on = goes_on bytes left walks.done strings spells walks.joined in
     let a = ap length on.1 in
@@ -59,13 +59,13 @@ heard_more Hears done s call is heard = subst Hears (ap (λ e. map entry_in done
 
 -- all calls are heard
 pub heard_all : (Hears : List Entry → Type 0) (bytes left : List ℕ) (n : ℕ) (walks : Walks bytes left n) → Hears (map entry_in walks.done) → left ≡ []
-    → (strings : List (List ℕ)) → Spells bytes strings → Hears (map entry_in strings)
+    → (strings : List (List ℕ)) → SpellsCalls bytes strings → Hears (map entry_in strings)
 heard_all Hears bytes left n walks heard none strings spells =
     subst (λ ss. Hears (map entry_in ss)) (spelt_same walks.done strings ((walks_all bytes left n walks none).whole ∙ sym spells.whole)) heard
 
 -- the calls up to this one are heard
 pub heard_here : (Hears : List Entry → Type 0) (bytes left more s : List ℕ) (n : ℕ) (call : Entry) (walks : Walks bytes left n) → left ≡ framed s ++ more → call ≡ entry_in s
-    → (strings : List (List ℕ)) → Spells bytes strings → Hears (map entry_in walks.done ++ call ∷ []) → Hears (take (suc n) (map entry_in strings))
+    → (strings : List (List ℕ)) → SpellsCalls bytes strings → Hears (map entry_in walks.done ++ call ∷ []) → Hears (take (suc n) (map entry_in strings))
 heard_here Hears bytes left more s n call walks next is strings spells heard =
     let on = goes_on bytes left walks.done strings spells walks.joined in
     let first = first_is left more s on.0 on.2 next in

@@ -17,12 +17,12 @@ use Rattle.xcp_trace.specs.EntrySpelling.{entry_in}
 use Rattle.xcp_trace.specs.Tape.{spelt}
 use Rattle.xcp_record.specs.declared.fault.AuditFault.{AuditFault}
 use Rattle.xcp_record.specs.declared.fault.AuditFault.TheVariants as faults
-use Rattle.xcp_record.specs.declared.ending.Ending.{Ending}
-use Rattle.xcp_record.specs.declared.ending.Ending.TheVariants as endings
+use Rattle.xcp_record.specs.declared.ending.FileEnding.{FileEnding}
+use Rattle.xcp_record.specs.declared.ending.FileEnding.TheVariants as endings
 use Rattle.xcp_record.specs.declared.ending.Settled.{Settled}
 use Rattle.xcp_record.specs.declared.roster.Roster.{Roster}
 use Rattle.xcp_record.specs.FileFormat.{chapter_bytes, chapter_head, chapter_in, ending_in, head, mark_in, size_in}
-use Rattle.xcp_record.specs.JournalFile.{EndsInside, IsChapter, IsNoPart, IsWhole, calls_of, exchanges}
+use Rattle.xcp_record.specs.JournalFile.{EndsInside, IsChapter, IsNoPart, IsWholeFile, calls_of, exchanges}
 use Rattle.xcp_record.specs.Audit.{Audits, Differs, HoldsRun, IsForeign, SaysSettled, SettlesUpTo}
 use Rattle.xcp_record.proofs.TapeLemmas.{append_same, nothing}
 use Rattle.xcp_record.proofs.FormatLemmas.{chapter_short, head_length, sha256_length, size_front}
@@ -56,7 +56,7 @@ ends_not rest size is long (inl few) = absurd (omega (arith, long, few))
 ends_not rest size is long (inr few) = absurd (omega (arith, is, long, few))
 
 -- nor is the file of a run cut
-not_cut : (other : List ℕ) (m : ℕ) (ending : Ending) (before rest : List ℕ) (n : ℕ) (tail : List (List (List ℕ))) → AllByRecursion IsChapter tail → rest ≡ behind before n tail ++ ending_in other m ending
+not_cut : (other : List ℕ) (m : ℕ) (ending : FileEnding) (before rest : List ℕ) (n : ℕ) (tail : List (List (List ℕ))) → AllByRecursion IsChapter tail → rest ≡ behind before n tail ++ ending_in other m ending
     → 0 < length rest → EndsInside rest → ⊥
 not_cut other m ending before rest n [] each h some ends = no_ending_inside other rest m ending h some ends
 not_cut other m ending before rest n (t ∷ tail) each h some ends =
@@ -76,7 +76,7 @@ not_cut other m ending before rest n (t ∷ tail) each h some ends =
     ends_not rest (length (spelt t)) size (omega (arith, a, b, c, d, e, f)) ends
 
 -- nor altered
-not_altered : (other : List ℕ) (m k : ℕ) (ending : Ending) (before rest left : List ℕ) (n : ℕ) (tail : List (List (List ℕ))) → AllByRecursion IsChapter tail
+not_altered : (other : List ℕ) (m k : ℕ) (ending : FileEnding) (before rest left : List ℕ) (n : ℕ) (tail : List (List (List ℕ))) → AllByRecursion IsChapter tail
     → rest ++ left ≡ behind before n tail ++ ending_in other m ending → (tail ≡ [] → (other ≡ before) × (m ≡ k)) → IsNoPart k n before rest → ⊥
 not_altered other m k endings.Open before rest left n [] each h same none =
     let e = ap length h ∙ refl in
@@ -104,7 +104,7 @@ not_foreign : (roster : Option Roster) (layout read left more : List ℕ) → le
 not_foreign roster layout read left more is h foreign = foreign.1 roster layout left is (λ end. end) (more, sym h)
 
 -- the file that holds a run
-abbrev whole_of : (roster : Option Roster) (layout all bytes : List ℕ) (v : SlaveValue) (n : ℕ) (ending : Ending) (holds : HoldsRun roster layout v all n ending) → bytes ≡ all → IsWhole roster layout bytes holds.holds.settled.chapters ending
+abbrev whole_of : (roster : Option Roster) (layout all bytes : List ℕ) (v : SlaveValue) (n : ℕ) (ending : FileEnding) (holds : HoldsRun roster layout v all n ending) → bytes ≡ all → IsWholeFile roster layout bytes holds.holds.settled.chapters ending
 whole_of roster layout all bytes v n ending holds same =
     let before = holds.holds.before in
     record { before = before; file = holds.holds.settled.file; whole = same ∙ holds.holds.whole ∙ ap (λ k. before ++ ending_in before k ending) (sym holds.holds.settled.count) }
@@ -112,23 +112,23 @@ whole_of roster layout all bytes v n ending holds same =
 up_to : (roster : Option Roster) (layout all read left : List ℕ) (v : SlaveValue) (m : ℕ) (why : ℕ → List ℕ → List ℕ → Type 0) → all ≡ read ++ left → (up : SettlesUpTo roster layout v read m why) → up.before ++ (up.rest ++ left) ≡ all
 up_to roster layout all read left v m why h up = sym (h ∙ ap (λ b. b ++ left) up.joined ∙ append_assoc up.before up.rest left)
 
-from_front : (found roster : Option Roster) (layout all read left : List ℕ) (v : SlaveValue) (n m : ℕ) (ending : Ending) (why : ℕ → List ℕ → List ℕ → Type 0) → length layout ≡ 32 → (holds : HoldsRun roster layout v all n ending) → all ≡ read ++ left
+from_front : (found roster : Option Roster) (layout all read left : List ℕ) (v : SlaveValue) (n m : ℕ) (ending : FileEnding) (why : ℕ → List ℕ → List ℕ → Type 0) → length layout ≡ 32 → (holds : HoldsRun roster layout v all n ending) → all ≡ read ++ left
     → (up : SettlesUpTo found layout v read m why) → GoesOn up.before (up.rest ++ left) up.settled.chapters holds.holds.settled.chapters holds.holds.before ending
 from_front found roster layout all read left v n m ending why is holds h up =
     file_goes_on_as found roster layout up.before (up.rest ++ left) up.settled.chapters holds.holds.settled.chapters ending is up.settled.file
     (whole_of roster layout all (up.before ++ (up.rest ++ left)) v n ending holds (up_to found layout all read left v m why h up))
 
 -- of a file that holds a run an audit says that it is settled, and how it ends, unless a read failed or no memory was left
-pub exact : Single → (found roster : Option Roster) (layout all read left : List ℕ) (v : SlaveValue) (n : ℕ) (ending : Ending) (result : Result Settled AuditFault) → length layout ≡ 32 → all ≡ read ++ left → HoldsRun roster layout v all n ending
+pub exact : Single → (found roster : Option Roster) (layout all read left : List ℕ) (v : SlaveValue) (n : ℕ) (ending : FileEnding) (result : Result Settled AuditFault) → length layout ≡ 32 → all ≡ read ++ left → HoldsRun roster layout v all n ending
     → Audits found layout v (left ≡ []) read result → SaysSettled n ending result
 exact single found roster layout all read left v n ending (Ok s) is h holds said =
     let whole : all ≡ read = h ∙ ap (λ b. read ++ b) said.0 ∙ append-nil read in
     let to = said.1 in
-    let first : IsWhole found layout read to.settled.chapters s.ending =
+    let first : IsWholeFile found layout read to.settled.chapters s.ending =
     record { before = to.before; file = to.settled.file; whole = to.whole ∙ ap (λ k. to.before ++ ending_in to.before k s.ending) (sym to.settled.count) } in
     let held = whole_of roster layout all read v n ending holds (sym whole) in
     let one = sym (same_named found roster layout layout read to.settled.chapters holds.holds.settled.chapters s.ending ending is is first held).1 in
-    let same = read_back_whole roster layout read to.settled.chapters holds.holds.settled.chapters s.ending ending (subst (λ r. IsWhole r layout read to.settled.chapters s.ending) one first) held in
+    let same = read_back_whole roster layout read to.settled.chapters holds.holds.settled.chapters s.ending ending (subst (λ r. IsWholeFile r layout read to.settled.chapters s.ending) one first) held in
     (sym to.settled.count ∙ ap (λ cs. length (calls_of cs)) same.0 ∙ holds.holds.settled.count, sym same.1)
 exact single found roster layout all read left v n ending (Err (faults.Mismatch i)) is h holds said =
     let chapters = holds.holds.settled.chapters in
@@ -167,7 +167,7 @@ exact single found roster layout all read left v n ending (Err faults.Memory) is
 
 -- the same of a reader whose bytes are known
 pub settles_known : Single → (old new : Option (List ℕ)) (found : Option Roster) (layout read : List ℕ) (v : SlaveValue) (result : Result Settled AuditFault) → length layout ≡ 32 → Consumes old new read
-    → Audits found layout v (IsAtEnd new) read result → IfSome old (λ all. (roster : Option Roster) (n : ℕ) (ending : Ending) → HoldsRun roster layout v all n ending → SaysSettled n ending result)
+    → Audits found layout v (IsAtEnd new) read result → IfSome old (λ all. (roster : Option Roster) (n : ℕ) (ending : FileEnding) → HoldsRun roster layout v all n ending → SaysSettled n ending result)
 settles_known single None new found layout read v result is consumed said = tt
 settles_known single (Some all) None found layout read v result is consumed said = absurd consumed
 settles_known single (Some all) (Some left) found layout read v result is consumed said = λ roster n ending holds. exact single found roster layout all read left v n ending result is consumed holds said

@@ -11,7 +11,7 @@ use Rattle.xcp_trace.specs.EntrySpelling.{IsEntryString}
 use mathlib.Core.List.{IsPrefix}
 use Rattle.xcp_record.specs.FileFormat.{chapter_bytes, chapter_head, chapter_in, most_call, most_calls, size_in}
 use Rattle.xcp_record.specs.JournalFile.{EndsInside, IsChapter, IsNoChapter}
-use Rattle.xcp_record.specs.private.Calls.{Spells}
+use Rattle.xcp_record.specs.private.Calls.{SpellsCalls}
 use Rattle.xcp_record.proofs.TapeLemmas.{append_same, spelt_same}
 
 digest_length : (h : List ℕ) (n : ℕ) → length (digest_bytes h n) ≡ 4 * n
@@ -52,6 +52,7 @@ spelt_short (s ∷ ss) all =
     let e = length-append (framed s) (spelt ss) in
     omega (arith, one, more, e)
 
+-- the calls of a chapter take at most 65,536 times 519 bytes
 pub chapter_short : (ss : List (List ℕ)) → IsChapter ss → length (spelt ss) ≤ most_call * most_calls
 chapter_short ss c = let h = spelt_short ss c.each in let few = c.few in omega (arith, h, few)
 
@@ -96,14 +97,14 @@ other_digest before number first calls digest is_first is_size is_digest other s
 
 -- nor bytes that are no calls
 pub no_calls : (before : List ℕ) (number : ℕ) (first calls digest : List ℕ) → length first ≡ 16 → length calls ≡ size_in first → length digest ≡ 32
-    → ((strings : List (List ℕ)) → Spells calls strings → ⊥) → IsNoChapter number before (first ++ calls ++ digest)
+    → ((strings : List (List ℕ)) → SpellsCalls calls strings → ⊥) → IsNoChapter number before (first ++ calls ++ digest)
 no_calls before number first calls digest is_first is_size is_digest none strings more chapter front =
     let parts = parts_are before number strings first calls digest more is_first is_size is_digest chapter front in
     none strings (record { whole = parts.1; each = chapter.each })
 
 -- nor too many calls
 pub too_many : (before : List ℕ) (number : ℕ) (first calls digest : List ℕ) (strings : List (List ℕ)) → length first ≡ 16 → length calls ≡ size_in first → length digest ≡ 32
-    → Spells calls strings → most_calls < length strings → IsNoChapter number before (first ++ calls ++ digest)
+    → SpellsCalls calls strings → most_calls < length strings → IsNoChapter number before (first ++ calls ++ digest)
 too_many before number first calls digest spelled is_first is_size is_digest spells many strings more chapter front =
     let parts = parts_are before number strings first calls digest more is_first is_size is_digest chapter front in
     let same = ap length (spelt_same strings spelled (parts.1 ∙ sym spells.whole)) in
@@ -112,7 +113,7 @@ too_many before number first calls digest spelled is_first is_size is_digest spe
 
 -- nor another head than its own
 pub other_head : (before : List ℕ) (number : ℕ) (first calls digest : List ℕ) (strings : List (List ℕ)) → length first ≡ 16 → length calls ≡ size_in first → length digest ≡ 32
-    → Spells calls strings → (chapter_head number (length strings) (length calls) ≡ first → ⊥) → IsNoChapter number before (first ++ calls ++ digest)
+    → SpellsCalls calls strings → (chapter_head number (length strings) (length calls) ≡ first → ⊥) → IsNoChapter number before (first ++ calls ++ digest)
 other_head before number first calls digest spelled is_first is_size is_digest spells other strings more chapter front =
     let parts = parts_are before number strings first calls digest more is_first is_size is_digest chapter front in
     let same = ap length (spelt_same strings spelled (parts.1 ∙ sym spells.whole)) in
@@ -140,11 +141,13 @@ inside_chapter first more is less =
     let s = size_at first more is in
     (omega (arith, l, is), inr (omega (arith, l, is, less, s)))
 
+-- a head with not all of its calls' bytes behind it ends inside a chapter
 pub inside_calls : (first calls : List ℕ) (n : ℕ) → length first ≡ 16 → length calls ≡ size_in first → n < length calls → (0 < length (first ++ take n calls)) × EndsInside (first ++ take n calls)
 inside_calls first calls n is size less =
     let l = length-take-le n calls (omega (arith, less)) in
     inside_chapter first (take n calls) is (omega (arith, l, size, less))
 
+-- and so do a head and all its calls' bytes with not all of the digest behind them
 pub inside_digest : (first calls digest : List ℕ) (n : ℕ) → length first ≡ 16 → length calls ≡ size_in first → length digest ≡ 32 → n < 32
     → (0 < length ((first ++ calls) ++ take n digest)) × EndsInside ((first ++ calls) ++ take n digest)
 inside_digest first calls digest n is size whole less =
@@ -153,7 +156,7 @@ inside_digest first calls digest n is size whole less =
     subst (λ b. (0 < length b) × EndsInside b) (sym (append_assoc first calls (take n digest))) (inside_chapter first (calls ++ take n digest) is (omega (arith, l, m, size, less)))
 
 -- what was read is the chapter of its calls
-pub chapter_whole : (before : List ℕ) (number : ℕ) (first calls digest : List ℕ) (strings : List (List ℕ)) → Spells calls strings → chapter_head number (length strings) (length calls) ≡ first
+pub chapter_whole : (before : List ℕ) (number : ℕ) (first calls digest : List ℕ) (strings : List (List ℕ)) → SpellsCalls calls strings → chapter_head number (length strings) (length calls) ≡ first
     → digest ≡ sha256 ((before ++ first) ++ calls) → (first ++ calls) ++ digest ≡ chapter_in before number strings
 chapter_whole before number first calls digest strings spells is sum =
     ap (λ d. (first ++ calls) ++ d) (sum ∙ ap sha256 (append_assoc before first calls))

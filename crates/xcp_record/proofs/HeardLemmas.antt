@@ -10,14 +10,14 @@ use Rattle.xcp_record.specs.declared.fault.AuditFault.{AuditFault}
 use Rattle.xcp_record.specs.declared.fault.AuditFault.TheVariants as audits
 use Rattle.xcp_record.specs.declared.chapter.ChapterFault.{ChapterFault}
 use Rattle.xcp_record.specs.declared.chapter.ChapterFault.TheVariants as faults
-use Rattle.xcp_record.specs.declared.ending.Ending.{Ending}
+use Rattle.xcp_record.specs.declared.ending.FileEnding.{FileEnding}
 use Rattle.xcp_record.specs.declared.roster.Roster.{Roster}
 use Rattle.xcp_record.specs.FileFormat.{chapter_in, ending_in}
 use Rattle.xcp_record.specs.JournalFile.{calls_of}
-use Rattle.xcp_record.specs.Audit.{HasCalls, HasCallsUpTo, Hears}
+use Rattle.xcp_record.specs.Audit.{HasCalls, HasCallsUpTo, Witnesses}
 use Rattle.xcp_record.specs.private.ReadChapter.{IsRead, fault_after}
 use Rattle.xcp_record.specs.private.ReadHead.{ReadsHead}
-use Rattle.xcp_record.specs.private.Stands.{Stands}
+use Rattle.xcp_record.specs.private.Stands.{AuditStands}
 use Rattle.xcp_record.proofs.FileLemmas.{calls_more, file_more}
 
 -- the first of two lists, and some of the second
@@ -27,7 +27,7 @@ take_behind xs ys n k i size is =
     sym (ap (λ m. take m (xs ++ ys)) same ∙ take-append-add xs ys (suc i))
 
 -- of a file without its head, nothing
-pub hears_no_head : (roster : Option Roster) (layout : List ℕ) (End : Type 0) (read : List ℕ) (hasher : Sha256) (fault : AuditFault) → ReadsHead layout End read hasher (Err fault) → Hears roster layout read (Err fault) []
+pub hears_no_head : (roster : Option Roster) (layout : List ℕ) (End : Type 0) (read : List ℕ) (hasher : Sha256) (fault : AuditFault) → ReadsHead layout End read hasher (Err fault) → Witnesses roster layout read (Err fault) []
 hears_no_head roster layout End read hasher audits.OtherLayout h = refl
 hears_no_head roster layout End read hasher audits.Foreign h = refl
 hears_no_head roster layout End read hasher audits.Read h = inl refl
@@ -37,7 +37,7 @@ hears_no_head roster layout End read hasher (audits.Cut n) h = absurd h
 hears_no_head roster layout End read hasher (audits.Altered n) h = absurd h
 hears_no_head roster layout End read hasher (audits.TooLong n) h = absurd h
 
-module _ (roster : Option Roster) (layout : List ℕ) (v slave : SlaveValue) (Read : List ℕ → Type 0) (Told : List Entry → Type 0) (hasher : Sha256) (number n : ℕ) (s : Stands roster layout v Read Told hasher slave number n) where
+module _ (roster : Option Roster) (layout : List ℕ) (v slave : SlaveValue) (Read : List ℕ → Type 0) (Told : List Entry → Type 0) (hasher : Sha256) (number n : ℕ) (s : AuditStands roster layout v Read Told hasher slave number n) where
   -- the calls of the whole chapters so far
   whole : HasCalls roster layout s.read (calls_of s.settled.chapters)
   whole = record { chapters = s.settled.chapters; file = s.settled.file; all = refl }
@@ -46,23 +46,23 @@ module _ (roster : Option Roster) (layout : List ℕ) (v slave : SlaveValue) (Re
   up_to read all is = record { before = s.read; rest = read; joined = is; has = whole; count = s.settled.count }
 
   -- of the whole file
-  pub hears_all : (read : List ℕ) (ending : Ending) → read ≡ ending_in s.read n ending → Hears roster layout (s.read ++ read) (Ok (record { calls = n; ending = ending })) (calls_of s.settled.chapters)
+  pub hears_all : (read : List ℕ) (ending : FileEnding) → read ≡ ending_in s.read n ending → Witnesses roster layout (s.read ++ read) (Ok (record { calls = n; ending = ending })) (calls_of s.settled.chapters)
   hears_all read ending is = record { before = s.read; has = whole; count = s.settled.count; whole = ap (λ b. s.read ++ b) is }
 
   -- up to the next chapter
-  pub hears_before : (read : List ℕ) (fault : ChapterFault) → Hears roster layout (s.read ++ read) (Err (fault_after n fault)) (calls_of s.settled.chapters)
+  pub hears_before : (read : List ℕ) (fault : ChapterFault) → Witnesses roster layout (s.read ++ read) (Err (fault_after n fault)) (calls_of s.settled.chapters)
   hears_before read faults.Cut = up_to read (s.read ++ read) refl
   hears_before read faults.Altered = up_to read (s.read ++ read) refl
   hears_before read faults.Read = inr (n, up_to read (s.read ++ read) refl)
   hears_before read faults.Memory = inr (n, up_to read (s.read ++ read) refl)
 
   -- of too many chapters
-  pub hears_too_long : Hears roster layout s.read (Err (audits.TooLong n)) (calls_of s.settled.chapters)
+  pub hears_too_long : Witnesses roster layout s.read (Err (audits.TooLong n)) (calls_of s.settled.chapters)
   hears_too_long = up_to [] s.read (sym (append-nil s.read))
 
   -- up to a call of the next chapter that differs
   pub hears_differing : (read calls : List ℕ) (count i place : ℕ) (next : IsRead number s.read read calls count) → place ≡ n + i
-      → Hears roster layout (s.read ++ read) (Err (audits.Mismatch place)) (calls_of s.settled.chapters ++ take (suc i) (map entry_in next.strings))
+      → Witnesses roster layout (s.read ++ read) (Err (audits.Mismatch place)) (calls_of s.settled.chapters ++ take (suc i) (map entry_in next.strings))
   hears_differing read calls count i place next is =
       let last = map entry_in next.strings in
       let front = calls_of s.settled.chapters in (

@@ -5,8 +5,8 @@ use Rattle.std.specs.Int.{w32, w64, from_le_bytes, to_le_bytes}
 use Rattle.std.proofs.lemmas.Nat.{from_le_bytes-to_le_bytes_4}
 use Rattle.sha2.specs.Sha256.{sha256}
 use Rattle.xcp_trace.specs.Tape.{spelt}
-use Rattle.xcp_record.specs.declared.ending.Ending.{Ending}
-use Rattle.xcp_record.specs.declared.ending.Ending.TheVariants as endings
+use Rattle.xcp_record.specs.declared.ending.FileEnding.{FileEnding}
+use Rattle.xcp_record.specs.declared.ending.FileEnding.TheVariants as endings
 use Rattle.xcp_record.specs.FileFormat.{chapter_bytes, chapter_head, chapter_in, ending_in, mark_bytes, mark_head, mark_in, most_call, most_calls, no_chapter, size_in}
 use Rattle.xcp_record.specs.JournalFile.{EndsInside, IsChapter, IsNoChapter, IsNoEnd, IsNoPart}
 use Rattle.xcp_record.proofs.TapeLemmas.{append_same}
@@ -30,6 +30,7 @@ count_length n = refl
 mark_joined : (before : List ℕ) (n : ℕ) → mark_in before n ≡ mark_head ++ (to_le_bytes w64 n ++ sha256 (before ++ mark_bytes n))
 mark_joined before n = append_assoc mark_head (to_le_bytes w64 n) (sha256 (before ++ mark_bytes n))
 
+-- a mark has 56 bytes
 pub mark_length : (before : List ℕ) (n : ℕ) → length (mark_in before n) ≡ 56
 mark_length before n =
     let a = length-append (mark_bytes n) (sha256 (before ++ mark_bytes n)) in
@@ -39,6 +40,7 @@ mark_length before n =
     let e = sha256_length (before ++ mark_bytes n) in
     omega (arith, a, b, c, d, e)
 
+-- its head says that 8 bytes stand where a chapter's calls would
 pub mark_size : size_in mark_head ≡ 8
 mark_size = size_again no_chapter 0 8 (omega arith)
 
@@ -111,10 +113,12 @@ mark_summed : (before : List ℕ) (n : ℕ) (first calls sum : List ℕ) → fir
 mark_summed before n first calls sum is count summed =
     summed ∙ ap sha256 (append_assoc before first calls) ∙ ap (λ f. sha256 (before ++ (f ++ calls))) is ∙ ap (λ c. sha256 (before ++ (mark_head ++ c))) count
 
+-- behind a mark's head, 8 bytes other than the number of all calls make no end mark
 pub other_count : (before : List ℕ) (n : ℕ) (first calls digest : List ℕ) → first ≡ mark_head → length calls ≡ 8 → length digest ≡ 32 → (calls ≡ to_le_bytes w64 n → ⊥) → IsNoEnd n before (first ++ calls ++ digest)
 other_count before n first calls digest is size whole other more h =
     other (mark_parts before n calls digest more size whole (ap (λ f. (f ++ calls ++ digest) ++ more) (sym is) ∙ h)).0
 
+-- nor does another digest than that of all before it
 pub other_sum : (before : List ℕ) (n : ℕ) (first calls digest sum : List ℕ) → first ≡ mark_head → length calls ≡ 8 → length digest ≡ 32 → calls ≡ to_le_bytes w64 n
     → sum ≡ sha256 ((before ++ first) ++ calls) → (sum ≡ digest → ⊥) → IsNoEnd n before (first ++ calls ++ digest)
 other_sum before n first calls digest sum is size whole count summed other more h =
@@ -136,7 +140,7 @@ mark_too_long before n read behind is some more h =
     absurd (omega (arith, a, b, c, d, some))
 
 -- an ending adds as many bytes as a mark has, or none
-pub no_ending_inside : (before rest : List ℕ) (n : ℕ) (ending : Ending) → rest ≡ ending_in before n ending → 0 < length rest → EndsInside rest → ⊥
+pub no_ending_inside : (before rest : List ℕ) (n : ℕ) (ending : FileEnding) → rest ≡ ending_in before n ending → 0 < length rest → EndsInside rest → ⊥
 no_ending_inside before rest n endings.Open is some inside = let e = ap length is in absurd (omega (arith, e, some))
 no_ending_inside before rest n endings.Ended is some inside = elim inside [
   | inl few ↦ let e = ap length is in let l = mark_length before n in absurd (omega (arith, e, l, few))
@@ -144,12 +148,12 @@ no_ending_inside before rest n endings.Ended is some inside = elim inside [
 ]
 
 -- and no chapter begins it
-pub ending_not_begun : (before other : List ℕ) (number n : ℕ) (ending : Ending) (strings : List (List ℕ)) (more : List ℕ) → IsChapter strings → chapter_in before number strings ++ more ≡ ending_in other n ending → ⊥
+pub ending_not_begun : (before other : List ℕ) (number n : ℕ) (ending : FileEnding) (strings : List (List ℕ)) (more : List ℕ) → IsChapter strings → chapter_in before number strings ++ more ≡ ending_in other n ending → ⊥
 ending_not_begun before other number n endings.Ended strings more chapter h = mark_not_begun before other number n strings more chapter h
 ending_not_begun before other number n endings.Open strings more chapter h = chapter_some before number strings more h
 
 -- endings that add the same are the same
-pub one_ending : (before other : List ℕ) (n m : ℕ) (a b : Ending) → ending_in before n a ≡ ending_in other m b → b ≡ a
+pub one_ending : (before other : List ℕ) (n m : ℕ) (a b : FileEnding) → ending_in before n a ≡ ending_in other m b → b ≡ a
 one_ending before other n m endings.Ended endings.Ended h = refl
 one_ending before other n m endings.Open endings.Open h = refl
 one_ending before other n m endings.Ended endings.Open h = let e = ap length h in let l = mark_length before n in absurd (omega (arith, e, l))

@@ -8,11 +8,11 @@ use Rattle.xcp_trace.specs.declared.Entry.{Entry}
 use Rattle.xcp_trace.specs.EntrySpelling.{entry_in}
 use Rattle.xcp_trace.specs.Tape.{spelt}
 use mathlib.Core.List.{IsPrefix}
-use Rattle.xcp_record.specs.declared.ending.Ending.{Ending}
-use Rattle.xcp_record.specs.declared.ending.Ending.TheVariants as endings
+use Rattle.xcp_record.specs.declared.ending.FileEnding.{FileEnding}
+use Rattle.xcp_record.specs.declared.ending.FileEnding.TheVariants as endings
 use Rattle.xcp_record.specs.declared.roster.Roster.{Roster}
 use Rattle.xcp_record.specs.FileFormat.{chapter_bytes, chapter_head, chapter_in, ending_in, head, with_chapters}
-use Rattle.xcp_record.specs.JournalFile.{IsChapter, IsFile, IsWhole, calls_of}
+use Rattle.xcp_record.specs.JournalFile.{IsChapter, IsFile, IsWholeFile, calls_of}
 use Rattle.xcp_record.proofs.MarkLemmas.{ending_not_begun, one_ending}
 use Rattle.xcp_record.proofs.TapeLemmas.{append_same, spelt_same}
 use Rattle.xcp_record.proofs.FormatLemmas.{chapter_short, head_length, parts_are, sha256_length, size_again}
@@ -23,6 +23,7 @@ abbrev pub behind : List ℕ → ℕ → List (List (List ℕ)) → List ℕ
 behind before n [] = []
 behind before n (c ∷ chapters) = chapter_in before n c ++ behind (before ++ chapter_in before n c) (suc n) chapters
 
+-- bytes with chapters behind them are these bytes, and then what the chapters add
 pub grows : (before : List ℕ) (n : ℕ) (chapters : List (List (List ℕ))) → with_chapters before n chapters ≡ before ++ behind before n chapters
 grows before n [] = sym (append-nil before)
 grows before n (c ∷ chapters) = grows (before ++ chapter_in before n c) (suc n) chapters ∙ append_assoc before (chapter_in before n c) (behind (before ++ chapter_in before n c) (suc n) chapters)
@@ -39,7 +40,7 @@ chapter_same before n s t x y is_s is_t h =
     (same, (append_same (chapter_in before n t) (chapter_in before n t) x y refl (ap (λ c. chapter_in before n c ++ x) (sym same) ∙ h)).1)
 
 -- of the chapters of a longer file the front has the first, whatever ends the file
-pub front_has : (other : List ℕ) (m : ℕ) (ending : Ending) (before : List ℕ) (n : ℕ) (ts ss : List (List (List ℕ))) (rest : List ℕ) → AllByRecursion IsChapter ts → AllByRecursion IsChapter ss
+pub front_has : (other : List ℕ) (m : ℕ) (ending : FileEnding) (before : List ℕ) (n : ℕ) (ts ss : List (List (List ℕ))) (rest : List ℕ) → AllByRecursion IsChapter ts → AllByRecursion IsChapter ss
     → behind before n ts ++ rest ≡ behind before n ss ++ ending_in other m ending
     → (tail : List (List (List ℕ))) × (ss ≡ ts ++ tail) × AllByRecursion IsChapter tail × (rest ≡ behind (before ++ behind before n ts) (n + length ts) tail ++ ending_in other m ending)
 front_has other m ending before n [] ss rest all each h =
@@ -62,13 +63,14 @@ front_has other m ending before n (t ∷ ts) (s ∷ ss) rest all each h =
     )
 
 -- Of a file the front that is a file too has the first of its chapters, and the rest has the others, and the ending.
-pub record GoesOn (before rest : List ℕ) (first all : List (List Entry)) (whole : List ℕ) (ending : Ending) : Type 0 where
+pub record GoesOn (before rest : List ℕ) (first all : List (List Entry)) (whole : List ℕ) (ending : FileEnding) : Type 0 where
   pub tail : List (List (List ℕ))
   pub joined : all ≡ first ++ map (λ chapter. map entry_in chapter) tail
   pub each : AllByRecursion IsChapter tail
   pub bytes : rest ≡ behind before (length first) tail ++ ending_in whole (length (calls_of all)) ending
 
-pub file_goes_on : (roster : Option Roster) (layout before rest : List ℕ) (first all : List (List Entry)) (ending : Ending) → IsFile roster layout before first → (whole : IsWhole roster layout (before ++ rest) all ending)
+-- a whole file goes on so behind a front that is a file
+pub file_goes_on : (roster : Option Roster) (layout before rest : List ℕ) (first all : List (List Entry)) (ending : FileEnding) → IsFile roster layout before first → (whole : IsWholeFile roster layout (before ++ rest) all ending)
     → GoesOn before rest first all whole.before ending
 file_goes_on roster layout before rest first all ending front whole =
     let h = head roster layout in
@@ -89,18 +91,18 @@ file_goes_on roster layout before rest first all ending front whole =
     }
 
 -- no chapter is an ending
-pub nothing_behind : (first second : List ℕ) (k m : ℕ) (a b : Ending) (before : List ℕ) (n : ℕ) (tail : List (List (List ℕ))) → AllByRecursion IsChapter tail
+pub nothing_behind : (first second : List ℕ) (k m : ℕ) (a b : FileEnding) (before : List ℕ) (n : ℕ) (tail : List (List (List ℕ))) → AllByRecursion IsChapter tail
     → ending_in first k a ≡ behind before n tail ++ ending_in second m b → (tail ≡ []) × (b ≡ a)
 nothing_behind first second k m a b before n [] each h = (refl, one_ending first second k m a b h)
 nothing_behind first second k m a b before n (t ∷ tail) each h =
     absurd (ending_not_begun before first n k a t _ each.0 (sym (append_assoc (chapter_in before n t) (behind (before ++ chapter_in before n t) (suc n) tail) (ending_in second m b)) ∙ sym h))
 
 -- the same bytes are the same file
-abbrev pub moved : (roster : Option Roster) (layout bytes other : List ℕ) (cs : List (List Entry)) (ending : Ending) → other ≡ bytes → IsWhole roster layout bytes cs ending → IsWhole roster layout other cs ending
+abbrev pub moved : (roster : Option Roster) (layout bytes other : List ℕ) (cs : List (List Entry)) (ending : FileEnding) → other ≡ bytes → IsWholeFile roster layout bytes cs ending → IsWholeFile roster layout other cs ending
 moved roster layout bytes other cs ending same whole = record { before = whole.before; file = whole.file; whole = same ∙ whole.whole }
 
 -- a file has one list of chapters, and one ending
-pub read_back_whole : (roster : Option Roster) (layout bytes : List ℕ) (cs ds : List (List Entry)) (a b : Ending) → IsWhole roster layout bytes cs a → IsWhole roster layout bytes ds b → (cs ≡ ds) × (b ≡ a)
+pub read_back_whole : (roster : Option Roster) (layout bytes : List ℕ) (cs ds : List (List Entry)) (a b : FileEnding) → IsWholeFile roster layout bytes cs a → IsWholeFile roster layout bytes ds b → (cs ≡ ds) × (b ≡ a)
 read_back_whole roster layout bytes cs ds a b first second =
     let k = length (calls_of cs) in
     let more = file_goes_on roster layout first.before (ending_in first.before k a) cs ds b first.file (moved roster layout bytes (first.before ++ ending_in first.before k a) ds b (sym first.whole) second) in
@@ -108,18 +110,20 @@ read_back_whole roster layout bytes cs ds a b first second =
     (sym (more.joined ∙ ap (λ t. cs ++ map (λ chapter. map entry_in chapter) t) none.0 ∙ append-nil cs), none.1)
 
 -- a file without an end mark is whole
-pub open_whole : (roster : Option Roster) (layout bytes : List ℕ) (cs : List (List Entry)) → IsFile roster layout bytes cs → IsWhole roster layout bytes cs endings.Open
+pub open_whole : (roster : Option Roster) (layout bytes : List ℕ) (cs : List (List Entry)) → IsFile roster layout bytes cs → IsWholeFile roster layout bytes cs endings.Open
 open_whole roster layout bytes cs file = record { before = bytes; file = file; whole = sym (append-nil bytes) }
 
+-- a file without an end mark has one list of chapters
 pub read_back : (roster : Option Roster) (layout bytes : List ℕ) (cs ds : List (List Entry)) → IsFile roster layout bytes cs → IsFile roster layout bytes ds → cs ≡ ds
 read_back roster layout bytes cs ds first second =
     (read_back_whole roster layout bytes cs ds endings.Open endings.Open (open_whole roster layout bytes cs first) (open_whole roster layout bytes ds second)).0
 
 -- a whole file begins with its head
-abbrev whole_behind : (roster : Option Roster) (layout bytes : List ℕ) (cs : List (List Entry)) (ending : Ending) → IsWhole roster layout bytes cs ending → List ℕ
+abbrev whole_behind : (roster : Option Roster) (layout bytes : List ℕ) (cs : List (List Entry)) (ending : FileEnding) → IsWholeFile roster layout bytes cs ending → List ℕ
 whole_behind roster layout bytes cs ending whole = behind (head roster layout) 0 whole.file.strings ++ ending_in whole.before (length (calls_of cs)) ending
 
-pub whole_begins : (roster : Option Roster) (layout bytes : List ℕ) (cs : List (List Entry)) (ending : Ending) (whole : IsWhole roster layout bytes cs ending) → bytes ≡ head roster layout ++ whole_behind roster layout bytes cs ending whole
+-- its bytes are its head, with its chapters and its ending behind it
+pub whole_begins : (roster : Option Roster) (layout bytes : List ℕ) (cs : List (List Entry)) (ending : FileEnding) (whole : IsWholeFile roster layout bytes cs ending) → bytes ≡ head roster layout ++ whole_behind roster layout bytes cs ending whole
 whole_begins roster layout bytes cs ending whole =
     let end = ending_in whole.before (length (calls_of cs)) ending in
     whole.whole ∙ ap (λ b. b ++ end) (whole.file.whole ∙ grows (head roster layout) 0 whole.file.strings) ∙ append_assoc (head roster layout) (behind (head roster layout) 0 whole.file.strings) end
@@ -133,26 +137,26 @@ same_layout r q a b bytes cs ds is_a is_b first second =
     (sym same.0, sym same.1)
 
 -- that of its head
-pub one_layout : (r q : Option Roster) (a b bytes rest : List ℕ) (cs : List (List Entry)) (ending : Ending) → length a ≡ 32 → length b ≡ 32 → IsWhole r a (bytes ++ rest) cs ending → bytes ≡ head q b → a ≡ b
+pub one_layout : (r q : Option Roster) (a b bytes rest : List ℕ) (cs : List (List Entry)) (ending : FileEnding) → length a ≡ 32 → length b ≡ 32 → IsWholeFile r a (bytes ++ rest) cs ending → bytes ≡ head q b → a ≡ b
 one_layout r q a b bytes rest cs ending is_a is_b whole h =
     (same_head r q a b _ rest is_a is_b (sym (ap (λ z. z ++ rest) (sym h) ∙ whole_begins r a (bytes ++ rest) cs ending whole))).0
 
 -- of two whole files, too
-pub same_named : (r q : Option Roster) (a b bytes : List ℕ) (cs ds : List (List Entry)) (end other : Ending) → length a ≡ 32 → length b ≡ 32 → IsWhole r a bytes cs end → IsWhole q b bytes ds other → (b ≡ a) × (q ≡ r)
+pub same_named : (r q : Option Roster) (a b bytes : List ℕ) (cs ds : List (List Entry)) (end other : FileEnding) → length a ≡ 32 → length b ≡ 32 → IsWholeFile r a bytes cs end → IsWholeFile q b bytes ds other → (b ≡ a) × (q ≡ r)
 same_named r q a b bytes cs ds end other is_a is_b first second =
     let same = same_head r q a b _ _ is_a is_b (sym (whole_begins r a bytes cs end first) ∙ whole_begins q b bytes ds other second) in
     (sym same.0, sym same.1)
 
 -- and the roster of its front
-one_roster : (found roster : Option Roster) (layout before rest : List ℕ) (first all : List (List Entry)) (ending : Ending) → length layout ≡ 32 → IsFile found layout before first → IsWhole roster layout (before ++ rest) all ending → found ≡ roster
+one_roster : (found roster : Option Roster) (layout before rest : List ℕ) (first all : List (List Entry)) (ending : FileEnding) → length layout ≡ 32 → IsFile found layout before first → IsWholeFile roster layout (before ++ rest) all ending → found ≡ roster
 one_roster found roster layout before rest first all ending is front whole =
     let more = behind (head found layout) 0 front.strings in
     let start : before ++ rest ≡ head found layout ++ (more ++ rest) = ap (λ b. b ++ rest) (front.whole ∙ grows (head found layout) 0 front.strings) ∙ append_assoc (head found layout) more rest in
     (same_head found roster layout layout (more ++ rest) _ is is (sym start ∙ whole_begins roster layout (before ++ rest) all ending whole)).1
 
 -- so it goes on with that
-pub file_goes_on_as : (found roster : Option Roster) (layout before rest : List ℕ) (first all : List (List Entry)) (ending : Ending) → length layout ≡ 32 → IsFile found layout before first
-    → (whole : IsWhole roster layout (before ++ rest) all ending) → GoesOn before rest first all whole.before ending
+pub file_goes_on_as : (found roster : Option Roster) (layout before rest : List ℕ) (first all : List (List Entry)) (ending : FileEnding) → length layout ≡ 32 → IsFile found layout before first
+    → (whole : IsWholeFile roster layout (before ++ rest) all ending) → GoesOn before rest first all whole.before ending
 file_goes_on_as found roster layout before rest first all ending is front whole =
-    subst (λ q. (w : IsWhole q layout (before ++ rest) all ending) → GoesOn before rest first all w.before ending) (one_roster found roster layout before rest first all ending is front whole)
+    subst (λ q. (w : IsWholeFile q layout (before ++ rest) all ending) → GoesOn before rest first all w.before ending) (one_roster found roster layout before rest first all ending is front whole)
     (λ w. file_goes_on found layout before rest first all ending front w) whole

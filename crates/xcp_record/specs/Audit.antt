@@ -7,7 +7,7 @@ use Rattle.xcp_slave.specs.Step.{Answers}
 use Rattle.xcp_trace.specs.declared.Entry.{Entry}
 use Rattle.xcp_record.specs.declared.fault.AuditFault.{AuditFault}
 use Rattle.xcp_record.specs.declared.fault.AuditFault.TheVariants as faults
-use Rattle.xcp_record.specs.declared.ending.Ending.{Ending}
+use Rattle.xcp_record.specs.declared.ending.FileEnding.{FileEnding}
 use Rattle.xcp_record.specs.declared.ending.Settled.{Settled}
 use Rattle.xcp_record.specs.declared.roster.Roster.{Roster}
 use Rattle.xcp_record.specs.FileFormat.{ending_in, head}
@@ -22,7 +22,7 @@ pub record Settles (roster : Option Roster) (layout : List ℕ) (v : SlaveValue)
   pub count : length (calls_of chapters) ≡ n
 
 -- The same of a whole file that ends so.
-pub record SettlesTo (roster : Option Roster) (layout : List ℕ) (v : SlaveValue) (bytes : List ℕ) (n : ℕ) (ending : Ending) : Type 0 where
+pub record SettlesTo (roster : Option Roster) (layout : List ℕ) (v : SlaveValue) (bytes : List ℕ) (n : ℕ) (ending : FileEnding) : Type 0 where
   pub before : List ℕ
   pub settled : Settles roster layout v before n
   pub whole : bytes ≡ before ++ ending_in before n ending
@@ -74,7 +74,7 @@ pub record HasCalls (roster : Option Roster) (layout bytes : List ℕ) (calls : 
   pub all : calls ≡ calls_of chapters
 
 -- The same of a whole file of n calls that ends so.
-pub record HasCallsTo (roster : Option Roster) (layout bytes : List ℕ) (n : ℕ) (ending : Ending) (calls : List Entry) : Type 0 where
+pub record HasCallsTo (roster : Option Roster) (layout bytes : List ℕ) (n : ℕ) (ending : FileEnding) (calls : List Entry) : Type 0 where
   pub before : List ℕ
   pub has : HasCalls roster layout before calls
   pub count : length calls ≡ n
@@ -90,24 +90,24 @@ pub record HasCallsUpTo (roster : Option Roster) (layout read : List ℕ) (n : �
 
 -- The calls that a witness of an audit is told, by what it says and has read: those of the file; of a file with a call that differs those
 -- up to this one; those before another fault; none where there is no head.
-abbrev pub Hears : Option Roster → List ℕ → List ℕ → Result Settled AuditFault → List Entry → Type 0
-Hears roster layout read (Ok s) calls = HasCallsTo roster layout read s.calls s.ending calls
-Hears roster layout read (Err (faults.Mismatch i)) calls = (all : List Entry) × HasCalls roster layout read all × (calls ≡ take (suc i) all)
-Hears roster layout read (Err (faults.Cut n)) calls = HasCallsUpTo roster layout read n calls
-Hears roster layout read (Err (faults.Altered n)) calls = HasCallsUpTo roster layout read n calls
-Hears roster layout read (Err (faults.TooLong n)) calls = HasCallsUpTo roster layout read n calls
-Hears roster layout read (Err faults.OtherLayout) calls = calls ≡ []
-Hears roster layout read (Err faults.Foreign) calls = calls ≡ []
-Hears roster layout read (Err e) calls = (calls ≡ []) ⊎ ((n : ℕ) × HasCallsUpTo roster layout read n calls)
+abbrev pub Witnesses : Option Roster → List ℕ → List ℕ → Result Settled AuditFault → List Entry → Type 0
+Witnesses roster layout read (Ok s) calls = HasCallsTo roster layout read s.calls s.ending calls
+Witnesses roster layout read (Err (faults.Mismatch i)) calls = (all : List Entry) × HasCalls roster layout read all × (calls ≡ take (suc i) all)
+Witnesses roster layout read (Err (faults.Cut n)) calls = HasCallsUpTo roster layout read n calls
+Witnesses roster layout read (Err (faults.Altered n)) calls = HasCallsUpTo roster layout read n calls
+Witnesses roster layout read (Err (faults.TooLong n)) calls = HasCallsUpTo roster layout read n calls
+Witnesses roster layout read (Err faults.OtherLayout) calls = calls ≡ []
+Witnesses roster layout read (Err faults.Foreign) calls = calls ≡ []
+Witnesses roster layout read (Err e) calls = (calls ≡ []) ⊎ ((n : ℕ) × HasCallsUpTo roster layout read n calls)
 
 -- It says that so many calls are settled, and how the file ends, unless a read failed or no memory was left.
-abbrev pub SaysSettled : ℕ → Ending → Result Settled AuditFault → Type 0
+abbrev pub SaysSettled : ℕ → FileEnding → Result Settled AuditFault → Type 0
 SaysSettled n ending (Ok s) = (s.calls ≡ n) × (s.ending ≡ ending)
 SaysSettled n ending (Err faults.Read) = Unit {0}
 SaysSettled n ending (Err faults.Memory) = Unit {0}
 SaysSettled n ending (Err e) = ⊥
 
 -- A run of the slave stands in a file of this layout, with this roster or none, that ends so, which has no more chapters than a journal can have.
-pub record HoldsRun (roster : Option Roster) (layout : List ℕ) (v : SlaveValue) (bytes : List ℕ) (n : ℕ) (ending : Ending) : Type 0 where
+pub record HoldsRun (roster : Option Roster) (layout : List ℕ) (v : SlaveValue) (bytes : List ℕ) (n : ℕ) (ending : FileEnding) : Type 0 where
   pub holds : SettlesTo roster layout v bytes n ending
   pub few : length holds.settled.chapters ≤ 4294967296

@@ -4,13 +4,13 @@ use Rattle.std.specs.Prelude.{ℕ, suc, List, [], ◌∷◌, ◌++◌, length, O
 use Rattle.std.specs.Int.{w32, w64, to_le_bytes, from_le_bytes}
 use Rattle.sha2.specs.Sha256.{sha256}
 use Rattle.xcp_trace.specs.Tape.{spelt}
-use Rattle.xcp_record.specs.declared.ending.Ending.{Ending}
-use Rattle.xcp_record.specs.declared.ending.Ending.TheVariants as endings
+use Rattle.xcp_record.specs.declared.ending.FileEnding.{FileEnding}
+use Rattle.xcp_record.specs.declared.ending.FileEnding.TheVariants as endings
 use Rattle.xcp_record.specs.declared.roster.Roster.{Roster}
 
 -- XCPJ, and the version, its low byte first
-abbrev pub magic : ℕ → List ℕ
-magic version = 0x58 ∷ 0x43 ∷ 0x50 ∷ 0x4A ∷ version ∷ 0 ∷ []
+abbrev pub journal_magic : ℕ → List ℕ
+journal_magic version = 0x58 ∷ 0x43 ∷ 0x50 ∷ 0x4A ∷ version ∷ 0 ∷ []
 
 -- the four bytes of a roster
 abbrev pub roster_bytes : Roster → List ℕ
@@ -19,8 +19,8 @@ roster_bytes roster = roster.tools ∷ roster.tasks ∷ roster.pumps ∷ roster.
 -- The head, where this is the SHA-256 of the layout file's bytes: of version 1, which says nothing of the callers, or of version 2, with
 -- their roster.
 unfoldable pub head : Option Roster → List ℕ → List ℕ
-head None layout = magic 1 ++ layout
-head (Some roster) layout = magic 2 ++ layout ++ roster_bytes roster
+head None layout = journal_magic 1 ++ layout
+head (Some roster) layout = journal_magic 2 ++ layout ++ roster_bytes roster
 
 -- a chapter's first 16 bytes: its number, its number of calls, and the length of their bytes, each with its low byte first
 unfoldable pub chapter_head : ℕ → ℕ → ℕ → List ℕ
@@ -60,7 +60,7 @@ abbrev pub mark_in : List ℕ → ℕ → List ℕ
 mark_in before calls = mark_bytes calls ++ sha256 (before ++ mark_bytes calls)
 
 -- what an ending adds
-abbrev pub ending_in : List ℕ → ℕ → Ending → List ℕ
+abbrev pub ending_in : List ℕ → ℕ → FileEnding → List ℕ
 ending_in before calls endings.Ended = mark_in before calls
 ending_in before calls endings.Open = []
 

@@ -5,7 +5,7 @@ use Rattle.xcp_slave.specs.declared.Exchange.{Exchange}
 use Rattle.xcp_trace.specs.declared.Entry.{Entry}
 use Rattle.xcp_trace.specs.EntrySpelling.{IsEntryString, entry_in}
 use mathlib.Core.List.{IsPrefix}
-use Rattle.xcp_record.specs.declared.ending.Ending.{Ending}
+use Rattle.xcp_record.specs.declared.ending.FileEnding.{FileEnding}
 use Rattle.xcp_record.specs.declared.roster.Roster.{Roster}
 use Rattle.xcp_record.specs.FileFormat.{chapter_in, ending_in, file_of, mark_in, most_calls, size_in}
 
@@ -30,7 +30,7 @@ abbrev pub exchanges : List Entry → List Exchange
 exchanges calls = map (λ (e : Entry). e.exchange) calls
 
 -- The bytes are a whole file of this layout, with this roster or none, and with this ending, and these are its chapters' calls.
-pub record IsWhole (roster : Option Roster) (layout bytes : List ℕ) (chapters : List (List Entry)) (ending : Ending) : Type 0 where
+pub record IsWholeFile (roster : Option Roster) (layout bytes : List ℕ) (chapters : List (List Entry)) (ending : FileEnding) : Type 0 where
   pub before : List ℕ
   pub file : IsFile roster layout before chapters
   pub whole : bytes ≡ before ++ ending_in before (length (calls_of chapters)) ending

@@ -5,10 +5,10 @@ use Rattle.sha2.specs.declared.Sha256.{Sha256}
 use Rattle.sha2.specs.Hashers.{Holds256}
 use Rattle.xcp_trace.specs.declared.Entry.{Entry}
 use Rattle.xcp_framing.specs.Prefix.{AppendsFront}
-use Rattle.xcp_record.specs.declared.ending.Ending.TheVariants.{Ended}
+use Rattle.xcp_record.specs.declared.ending.FileEnding.TheVariants.{Ended}
 use Rattle.xcp_record.specs.declared.roster.Roster.{Roster}
 use Rattle.xcp_record.specs.FileFormat.{chapter_in, mark_in}
-use Rattle.xcp_record.specs.JournalFile.{IsFile, IsWhole, calls_of}
+use Rattle.xcp_record.specs.JournalFile.{IsFile, IsWholeFile, calls_of}
 
 -- The bytes behind those of the start are a whole file of this roster and layout with these chapters; the hasher holds them.
 pub record Records (roster : Option Roster) (layout : List ℕ) (start now : Option (List ℕ)) (hasher : Sha256) (count calls : ℕ) (chapters : List (List Entry)) : Type 0 where
@@ -31,7 +31,7 @@ pub record StopsInside (roster : Option Roster) (layout : List ℕ) (start now :
 -- The bytes behind those of the start are a whole file of this roster and layout with these chapters, and the end mark ends it.
 pub record EndsInOrder (roster : Option Roster) (layout : List ℕ) (start now : Option (List ℕ)) (chapters : List (List Entry)) : Type 0 where
   pub bytes : List ℕ
-  pub file : IsWhole roster layout bytes chapters Ended
+  pub file : IsWholeFile roster layout bytes chapters Ended
   pub grown : Appends start now bytes
 
 -- Behind the start stands a file with these chapters, and of the end mark's bytes a front.

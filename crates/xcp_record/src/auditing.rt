@@ -5,19 +5,19 @@ ghost use Rattle.sha2.specs.Hashers.{Holds256};
 ghost use Rattle.xcp_slave.specs.SlaveValue.{SlaveValue};
 ghost use Rattle.xcp_slave.specs.Step.{Answers};
 ghost use Rattle.xcp_slave.specs.Run.{Run};
-ghost use Rattle.xcp_record.specs.Audit.{Audits, Differs, Hears, HoldsRun, SaysSettled};
+ghost use Rattle.xcp_record.specs.Audit.{Audits, Differs, Witnesses, HoldsRun, SaysSettled};
 ghost use Rattle.xcp_trace.specs.declared.journal.Entry.{Entry};
 ghost use Rattle.xcp_trace.specs.EntrySpelling.{entry_in};
 ghost use Rattle.xcp_record.specs.FileFormat.{most_calls};
-ghost use Rattle.xcp_record.specs.declared.ending.Ending.{Ending};
+ghost use Rattle.xcp_record.specs.declared.ending.FileEnding.{FileEnding};
 ghost use Rattle.xcp_record.specs.declared.roster.Roster.{Roster};
-ghost use Rattle.xcp_record.specs.private.Calls.{Spells};
-ghost use Rattle.xcp_record.specs.private.ReadChapter.{ReadsNext, fault_after};
+ghost use Rattle.xcp_record.specs.private.Calls.{SpellsCalls};
+ghost use Rattle.xcp_record.specs.private.ReadChapter.{ReadsNextPart, fault_after};
 ghost use Rattle.xcp_record.specs.private.ReadHead.{ReadsHead, ReadsRoster};
 ghost use Rattle.xcp_record.specs.JournalFile.{exchanges};
 
 use crate::chapter::{ChapterFault, Parts};
-use crate::ending::{Ending, Settled};
+use crate::ending::{FileEnding, Settled};
 use crate::fault::AuditFault;
 use crate::filling::fill;
 use crate::head::{FIRST_MAGIC, HEAD_BYTES, MAGIC, ROSTER_BYTES, same};
@@ -36,7 +36,7 @@ enum Part {
     /// A chapter of so many calls.
     Chapter(u64),
     /// The end of the file.
-    End(Ending),
+    End(FileEnding),
 }
 
 /// The most chapters of a journal.
@@ -59,11 +59,11 @@ pub fn audit<R: Read, T: Witness>(
         × Consumes (R.remaining reader.old.inner) (R.remaining reader.new.inner) read
         × (roster : Option Roster) × Audits roster layout.now slave (IsAtEnd (R.remaining reader.new.inner)) read result
         × (calls : List Entry)
-        × T.hears witness.old roster calls witness.new × Hears roster layout.now read result calls }
+        × T.hears witness.old roster calls witness.new × Witnesses roster layout.now read result calls }
     ensures unfailed { result ≢ Err AuditFault.Read → reader.new.failures ≡ reader.old.failures }
     ensures failed { result ≡ Err AuditFault.Read → reader.old.failures < reader.new.failures }
     // Of a file that holds a run of the slave it says nothing else.
-    ensures settles { IfSome (R.remaining reader.old.inner) (λ all. (roster : Option Roster) (n : ℕ) (ending : Ending)
+    ensures settles { IfSome (R.remaining reader.old.inner) (λ all. (roster : Option Roster) (n : ℕ) (ending : FileEnding)
         → HoldsRun roster layout.now slave all n ending → SaysSettled n ending result) }
 {
     each_request_has_one_answer();
@@ -84,7 +84,7 @@ fn audit_chapters<R: Read, T: Witness>(
         × Consumes (R.remaining reader.old.inner) (R.remaining reader.new.inner) read
         × (roster : Option Roster) × Audits roster layout.now slave.old (IsAtEnd (R.remaining reader.new.inner)) read result
         × (calls : List Entry)
-        × T.hears witness.old roster calls witness.new × Hears roster layout.now read result calls }
+        × T.hears witness.old roster calls witness.new × Witnesses roster layout.now read result calls }
     ensures unfailed { result ≢ Err AuditFault.Read → reader.new.failures ≡ reader.old.failures }
     ensures failed { result ≡ Err AuditFault.Read → reader.old.failures < reader.new.failures }
 {
@@ -211,7 +211,7 @@ fn next_part<R: Read>(
 ) -> Result<Part, ChapterFault>
     ensures reads { (before : List ℕ) → Holds256 hasher.old before → (read : List ℕ)
         × Consumes (R.remaining reader.old.inner) (R.remaining reader.new.inner) read
-        × ReadsNext number calls before (IsAtEnd (R.remaining reader.new.inner)) read parts.new.calls.items hasher.new result }
+        × ReadsNextPart number calls before (IsAtEnd (R.remaining reader.new.inner)) read parts.new.calls.items hasher.new result }
     ensures unfailed { result ≢ Err ChapterFault.Read → reader.new.failures ≡ reader.old.failures }
     ensures failed { result ≡ Err ChapterFault.Read → reader.old.failures < reader.new.failures }
 {
@@ -220,11 +220,11 @@ fn next_part<R: Read>(
         Err(fault) => return Err(fault),
     };
     if !there {
-        return Ok(Part::End(Ending::Open));
+        return Ok(Part::End(FileEnding::Open));
     }
     if parts.begin_a_mark() {
         return match parts.end_a_file(calls, reader, hasher) {
-            Ok(()) => Ok(Part::End(Ending::Ended)),
+            Ok(()) => Ok(Part::End(FileEnding::Ended)),
             Err(fault) => Err(fault),
         };
     }
@@ -243,16 +243,16 @@ fn check_calls<T: Witness>(
     before: u64,
     witness: &mut T,
 ) -> Result<(), u64>
-    requires calls { (strings : List (List ℕ)) × Spells bytes.now strings × (length strings ≤ most_calls) }
+    requires calls { (strings : List (List ℕ)) × SpellsCalls bytes.now strings × (length strings ≤ most_calls) }
     requires before { before < 2 ^ 62 }
-    ensures ok { (strings : List (List ℕ)) → Spells bytes.now strings
+    ensures ok { (strings : List (List ℕ)) → SpellsCalls bytes.now strings
         → OnOk result (Run slave.old (exchanges (map entry_in strings)) slave.new) }
-    ensures err { (strings : List (List ℕ)) → Spells bytes.now strings
+    ensures err { (strings : List (List ℕ)) → SpellsCalls bytes.now strings
         → IfErr result (λ place. (i : ℕ) × (place ≡ before + i)
         × Differs slave.old (map entry_in strings) i) }
-    ensures told { (strings : List (List ℕ)) → Spells bytes.now strings
+    ensures told { (strings : List (List ℕ)) → SpellsCalls bytes.now strings
         → OnOk result (T.hears witness.old roster (map entry_in strings) witness.new) }
-    ensures told_some { (strings : List (List ℕ)) → Spells bytes.now strings
+    ensures told_some { (strings : List (List ℕ)) → SpellsCalls bytes.now strings
         → IfErr result (λ place. (i : ℕ) × (place ≡ before + i)
         × T.hears witness.old roster (take (suc i) (map entry_in strings)) witness.new) }
 {

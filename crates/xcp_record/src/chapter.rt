@@ -3,8 +3,8 @@ ghost use Rattle.std.specs.Prelude.{◌≡◌, ◌≢◌, ◌<◌, ◌≤◌, �
 ghost use Rattle.std.specs.Io.KnownBytes.{Consumes, IsAtEnd};
 ghost use Rattle.sha2.specs.Hashers.{Holds256};
 ghost use Rattle.xcp_record.specs.FileFormat.{size_in};
-ghost use Rattle.xcp_record.specs.private.Calls.{Spells};
-ghost use Rattle.xcp_record.specs.private.ReadChapter.{Checks, ReadsParts};
+ghost use Rattle.xcp_record.specs.private.Calls.{SpellsCalls};
+ghost use Rattle.xcp_record.specs.private.ReadChapter.{ChecksChapter, ReadsParts};
 
 use crate::filling::{ReadFailed, fill};
 use crate::head::{CHAPTER_HEAD_BYTES, chapter_head, digest_of, same};
@@ -101,7 +101,7 @@ impl Parts {
         requires size { length self.now.calls.items ≡ size_in self.now.head }
         requires most { length self.now.calls.items ≤ MOST_BYTES }
         ensures fine { result ≢ Err ChapterFault.Read }
-        ensures checks { (before : List ℕ) → Holds256 hasher.old before → Checks number before (self.now.head ++ self.now.calls.items ++ self.now.digest) self.now.calls.items hasher.new result }
+        ensures checks { (before : List ℕ) → Holds256 hasher.old before → ChecksChapter number before (self.now.head ++ self.now.calls.items ++ self.now.digest) self.now.calls.items hasher.new result }
     {
         hasher.update(&self.head);
         hasher.update(&self.calls);
@@ -151,8 +151,8 @@ fn read_calls<R: Read>(
 
 /// How many calls these bytes spell, if they do.
 fn count_calls(bytes: &[u8]) -> Option<usize>
-    ensures some { IfSome result (λ count. (strings : List (List ℕ)) × Spells bytes.now strings × (length strings ≡ count)) }
-    ensures none { IfNone result ((strings : List (List ℕ)) → Spells bytes.now strings → ⊥) }
+    ensures some { IfSome result (λ count. (strings : List (List ℕ)) × SpellsCalls bytes.now strings × (length strings ≡ count)) }
+    ensures none { IfNone result ((strings : List (List ℕ)) → SpellsCalls bytes.now strings → ⊥) }
 {
     let mut left = bytes;
     let mut count = 0;

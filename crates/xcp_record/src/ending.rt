@@ -2,7 +2,7 @@
 
 /// What stands behind the last chapter of a whole file.
 #[derive(Clone, Copy, Debug, PartialEq, Eq)]
-pub enum Ending {
+pub enum FileEnding {
     /// The end mark, and nothing behind it: who wrote the file has ended in order.
     Ended,
     /// Nothing: who writes the file still runs, or didn't end in order.
@@ -13,5 +13,5 @@ pub enum Ending {
 #[derive(Clone, Copy, Debug, PartialEq, Eq)]
 pub struct Settled {
     pub calls: u64,
-    pub ending: Ending,
+    pub ending: FileEnding,
 }

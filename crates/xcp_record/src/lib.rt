@@ -19,7 +19,7 @@ mod roster;
 mod witness;
 
 pub use auditing::audit;
-pub use ending::{Ending, Settled};
+pub use ending::{FileEnding, Settled};
 pub use fault::{AuditFault, NotBegun, RecordFault};
 pub use law::a_file_has_one_journal;
 pub use recorder::Recorder;

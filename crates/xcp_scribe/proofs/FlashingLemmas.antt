@@ -7,7 +7,7 @@ use Rattle.xcp_slave.specs.SlaveValue.{layout_of}
 use Rattle.xcp_flash.specs.FlashFile.{file_of, file_size}
 use Rattle.xcp_flash.specs.References.{AreReferences, kept_pages}
 use Rattle.xcp_scribe.specs.Given.{Given}
-use Rattle.xcp_scribe.specs.Flashing.{AsksFor, HasKept, IsDue, Keeps, Stands, last_kept}
+use Rattle.xcp_scribe.specs.Flashing.{AsksFor, HasKept, IsDue, Keeps, KeepsFile, last_kept}
 use Rattle.xcp_scribe.specs.ShelfCalls.{Asked, failures, last_failed}
 use Rattle.xcp_scribe.specs.Standing.{is_behind}
 use Rattle.xcp_scribe.proofs.AskLemmas.{asks_no_more, asks_once_more}
@@ -71,7 +71,7 @@ kept_same {F} holds f p room told behind given g was is fit same not = λ all.
       asks = asks_no_more f.layout f.start.value false given f.shelf.asked g k.asks (not_due f.pages f.start.value (last_kept f.start.value given) (last_failed false f.shelf.asked) f.standing g k.pages same f.behind not);
     }
   where
-    stands_on : Keeps holds f given → (s : Standing) → f.standing ≡ s → Stands holds s f given → Stands holds s (record f { pages = p; room = room; told = told; behind = behind }) (given ++ g ∷ [])
+    stands_on : Keeps holds f given → (s : Standing) → f.standing ≡ s → KeepsFile holds s f given → KeepsFile holds s (record f { pages = p; room = room; told = told; behind = behind }) (given ++ g ∷ [])
     stands_on k Untouched e h = (all_more (λ (x : Given). kept_pages x.last ≡ f.start.value) given g h.0 (sym same ∙ k.pages ∙ last_untouched f.start.value given h.0), h.1)
     stands_on k Current e h = subst (λ (q : List (List ℕ)). holds f.shelf.inner (file_of f.layout q)) (same ∙ sym is) h
     stands_on k Behind e h = absurd (not e)
@@ -83,7 +83,7 @@ module _ {F : Type 0} (holds : F → List ℕ → Type 0) (old f : Flashing F) (
   is_due k (inr behind) = inr (sym old.behind ∙ ap is_behind behind)
 
   pub kept_asked : f.pages ≡ kept_pages g.last → AreReferences f.pages (layout_of g.last) → f.shelf.asked ≡ old.shelf.asked ++ call ∷ [] → call.file ≡ file_of f.layout f.pages → (kept_pages g.last ≢ old.pages) ⊎ (old.standing ≡ Behind)
-      → Stands holds f.standing f (given ++ g ∷ []) → HasKept holds f (given ++ g ∷ [])
+      → KeepsFile holds f.standing f (given ++ g ∷ []) → HasKept holds f (given ++ g ∷ [])
   kept_asked is fit asked file due stands = λ all.
       let k = was (subst (λ (s : List (List ℕ)). AllByRecursion (λ (x : Given). AreReferences s (layout_of x.last)) given) start (all_front _ given g all)) in
       let calls = asks_once_more old.layout old.start.value false given old.shelf.asked g call k.asks (is_due k due) (file ∙ ap (λ (l : List ℕ). file_of l f.pages) layout ∙ ap (λ (p : List (List ℕ)). file_of old.layout p) is) in

@@ -31,17 +31,17 @@ AsksFor layout pages failed (g ∷ given) asked =
 
 -- What is true of the file by its standing. Untouched: no other pages are kept of any chapter's end than those of the beginning, and
 -- the shelf was asked for nothing. Current: it has those of the last chapter's end. Behind: the last write failed, which is told.
-abbrev pub Stands : {F : Type 0} → (F → List ℕ → Type 0) → Standing → Flashing F → List Given → Type 0
-Stands holds standings.Untouched f given = AllByRecursion (λ (g : Given). kept_pages g.last ≡ f.start.value) given × (f.shelf.asked ≡ [])
-Stands holds standings.Current f given = holds f.shelf.inner (file_of f.layout f.pages)
-Stands holds standings.Behind f given = f.failed ≡ true
+abbrev pub KeepsFile : {F : Type 0} → (F → List ℕ → Type 0) → Standing → Flashing F → List Given → Type 0
+KeepsFile holds standings.Untouched f given = AllByRecursion (λ (g : Given). kept_pages g.last ≡ f.start.value) given × (f.shelf.asked ≡ [])
+KeepsFile holds standings.Current f given = holds f.shelf.inner (file_of f.layout f.pages)
+KeepsFile holds standings.Behind f given = f.failed ≡ true
 
 -- The scribe has the pages that are kept of the last chapter's end, which are of the sizes of those of the beginning, and so has its file,
 -- by its standing; and the shelf was asked for what it had to be.
 pub record Keeps {F : Type 0} (holds : F → List ℕ → Type 0) (f : Flashing F) (given : List Given) : Type 0 where
   pub pages : f.pages ≡ last_kept f.start.value given
   pub sized : map (λ page. length page) f.pages ≡ map (λ page. length page) f.start.value
-  pub stands : Stands holds f.standing f given
+  pub stands : KeepsFile holds f.standing f given
   pub asks : AsksFor f.layout f.start.value false given f.shelf.asked
 
 -- the same, where all these chapters are of slaves whose reference pages have the sizes of those of the beginning

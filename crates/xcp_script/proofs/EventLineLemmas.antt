@@ -41,6 +41,7 @@ no_part_hex : hex_bytes 255 [] ≡ None
 unfolding hex_bytes
 no_part_hex = refl
 
+-- signals that are handed over by themselves are faulty without a space
 pub no_space_behind : (text : List ℕ) → None ≡ position is_space text → Faulty ≡ signals_of text
 no_space_behind text h =
     let far : length text ≤ position_or_len is_space text + 1 = grind (arith, nat_tests, lost _ _ h) in

@@ -43,6 +43,7 @@ at_odd b =
 pub high_in_table : (b : ℕ) → b < 256 → slice_index (map digit_at (range_with_len 0 512)) (2 * b) ≡ slice_index upper_digits (b / 16)
 high_in_table b h = get_or-map-range_with_len digit_at 0 512 (2 * b) (2 * b) 0 (omega (arith, h)) (omega arith) ∙ at_even b
 
+-- the second digit of a byte stands in that table at the odd index, right behind the first
 pub low_in_table : (b : ℕ) → b < 256 → slice_index (map digit_at (range_with_len 0 512)) (2 * b + 1) ≡ slice_index upper_digits (b % 16)
 low_in_table b h = get_or-map-range_with_len digit_at 0 512 (2 * b + 1) (2 * b + 1) 0 (omega (arith, h)) (omega arith) ∙ at_odd b
 
@@ -100,6 +101,7 @@ both c d h =
     let low : value_or d ≤ 15 = elim (one_of d) [ inl l ↦ l | inr l ↦ absurd (omega (arith, h, l)) ] in
     (omega (arith, h), low)
 
+-- where the value of two is above 255, one of them is no digit
 pub not_both : (c d : ℕ) → 255 < value_or c * 16 + value_or d → (15 < value_or c) ⊎ (15 < value_or d)
 not_both c d h =
     elim (one_of c) [ inl k ↦ elim (one_of d) [ inl l ↦ absurd (omega (arith, h, k, l)) | inr l ↦ inr (omega (arith, l)) ] | inr k ↦ inl (omega (arith, k)) ]

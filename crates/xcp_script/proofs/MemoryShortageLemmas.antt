@@ -12,7 +12,7 @@ use mathlib.Core.List.{IsPrefix}
 use Rattle.xcp_framing.specs.Prefix.{AppendsFront}
 use Rattle.xcp_script.specs.Lines.{unless_empty}
 use Rattle.xcp_script.specs.private.LineReading.{asked_before, lines_from, OfRead, ShortOf}
-use Rattle.xcp_script.specs.Replay.{asked, asked_by, is_faulty, EndsShort, Tells}
+use Rattle.xcp_script.specs.Replay.{asked, asked_by, is_faulty, EndsShort, TellsAnswers}
 use Rattle.xcp_script.specs.ScriptLine.{meaning}
 use Rattle.xcp_script.specs.AnswerText.{answers_text, text_of}
 use Rattle.xcp_script.proofs.FrontLemmas.{front_all}
@@ -77,7 +77,7 @@ memory_as A B errors.Write h = absurd (cc)
 memory_as A B errors.Memory h = refl
 
 -- where an allocation failed a front was written
-pub memory_tells : (A B : Type 0) (e : ReplayError) (a b : Option (List ℕ)) (t : List ℕ) → ◌≡◌ {A = Result B ReplayError} (Err e) (Err errors.Memory) → Tells {A = A} (Err e) a b t → AppendsFront a b t
+pub memory_tells : (A B : Type 0) (e : ReplayError) (a b : Option (List ℕ)) (t : List ℕ) → ◌≡◌ {A = Result B ReplayError} (Err e) (Err errors.Memory) → TellsAnswers {A = A} (Err e) a b t → AppendsFront a b t
 memory_tells A B (errors.Line k) a b t h f = absurd (cc)
 memory_tells A B errors.Read a b t h f = absurd (cc)
 memory_tells A B errors.Write a b t h f = absurd (cc)

@@ -4,6 +4,7 @@ use Rattle.xcp_framing.specs.CountedCalls.{Watched, EachRead}
 use Rattle.xcp_framing.proofs.ReadSizeLemmas.{one_read_more}
 use Rattle.xcp_script.specs.Replay.{IsTurn}
 
+-- 16,384 bytes are a turn
 pub is_turn : (n : ℕ) → n ≡ 16384 → IsTurn n
 is_turn n is = record { exact = is; least = omega (arith, is); most = omega (arith, is) }
 

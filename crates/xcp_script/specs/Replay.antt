@@ -53,11 +53,11 @@ OfLines (Some input) Holds = (lines : List (List ℕ)) → Lines input lines →
 
 -- What was written of the text of the answers, by what the replay returned: all of it, or after a
 -- failed write, or where an allocation fails, a front of it.
-abbrev pub Tells : {A : Type 0} → Result A ReplayError → Option (List ℕ) → Option (List ℕ) → List ℕ → Type 0
-Tells (Ok value) old new text = Appends old new text
-Tells (Err (errors.Line k)) old new text = Appends old new text
-Tells (Err errors.Read) old new text = Appends old new text
-Tells (Err e) old new text = AppendsFront old new text
+abbrev pub TellsAnswers : {A : Type 0} → Result A ReplayError → Option (List ℕ) → Option (List ℕ) → List ℕ → Type 0
+TellsAnswers (Ok value) old new text = Appends old new text
+TellsAnswers (Err (errors.Line k)) old new text = Appends old new text
+TellsAnswers (Err errors.Read) old new text = Appends old new text
+TellsAnswers (Err e) old new text = AppendsFront old new text
 
 -- of the requests that were asked the next one was not taken
 pub record NotTaken (asks : List Request) (exchanges : List Exchange) : Type 0 where

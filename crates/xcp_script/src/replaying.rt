@@ -6,7 +6,7 @@ ghost use Rattle.xcp_slave.specs.SlaveValue.{layout_of, opening};
 ghost use mathlib.Core.List.{IsPrefix};
 ghost use Rattle.xcp_framing.specs.CountedCalls.{EachRead};
 ghost use Rattle.xcp_script.specs.private.LineReading.{OfRead};
-ghost use Rattle.xcp_script.specs.Replay.{EndsShort, IsTurn, OfLines, Replayed, Tells, UsesStreams, asked};
+ghost use Rattle.xcp_script.specs.Replay.{EndsShort, IsTurn, OfLines, Replayed, TellsAnswers, UsesStreams, asked};
 ghost use Rattle.xcp_script.specs.AnswerText.{answers_text};
 
 use crate::ReplayError;
@@ -22,7 +22,7 @@ const PIECE_BYTES: usize = 16384;
 fn write_texts<W: Write>(writer: &mut Watched<W>, texts: &mut Vec<u8>) -> Result<(), ReplayError>
     ensures told { (start : Option (List ℕ)) (before whole : List ℕ)
         → Appends start (W.contents writer.old.inner) before → before ++ texts.old.items ≡ whole
-        → Tells result start (W.contents writer.new.inner) whole }
+        → TellsAnswers result start (W.contents writer.new.inner) whole }
     ensures unfailed { OnOk result (writer.new.failures ≡ writer.old.failures) }
     ensures write { OnErr result (writer.old.failures < writer.new.failures) }
     ensures only { IfErr result (λ e. e ≡ ReplayError.Write) }
@@ -52,7 +52,7 @@ fn write_out<W: Write>(
         → Appends start (W.contents writer.old.inner) before
         → (outcome ≢ Err LineError.Memory → before ++ texts.old.items ≡ whole)
         → IsPrefix before whole
-        → Tells result start (W.contents writer.new.inner) whole }
+        → TellsAnswers result start (W.contents writer.new.inner) whole }
     ensures unfailed { result ≢ Err ReplayError.Write → writer.new.failures ≡ writer.old.failures }
     ensures write { result ≡ Err ReplayError.Write → writer.old.failures < writer.new.failures }
     ensures no_read { result ≢ Err ReplayError.Read }
@@ -82,7 +82,7 @@ fn run_script<R: Read, W: Write>(
         × (pending.old.count ≡ 0) × (texts.old.items ≡ []) }
     ensures replayed { OfRead (R.remaining reader.old.inner) (λ lines.
         Replayed (layout_of desk.old.slave).max_cto lines result (requests_of desk.new.exchanges)) }
-    ensures told { Tells result
+    ensures told { TellsAnswers result
         (W.contents writer.old.inner) (W.contents writer.new.inner) (answers_text desk.new.exchanges) }
     ensures ended { OnOk result (IsAtEnd (R.remaining reader.new.inner)) }
     ensures streams { UsesStreams turns result reader.old reader.new writer.old writer.new }
@@ -131,7 +131,7 @@ pub fn replay_on<R: Read, W: Write>(
     ensures replayed { OfLines (R.remaining reader.old.inner) (λ lines.
         Replayed (layout_of desk.old.slave).max_cto lines result (requests_of desk.new.exchanges)) }
     ensures run { Run (opening (layout_of desk.old.slave)) desk.new.exchanges desk.new.slave }
-    ensures told { Tells result
+    ensures told { TellsAnswers result
         (W.contents writer.old.inner) (W.contents writer.new.inner) (answers_text desk.new.exchanges) }
     ensures ended { OnOk result (IsAtEnd (R.remaining reader.new.inner)) }
 
@@ -151,6 +151,6 @@ pub fn replay_on<R: Read, W: Write>(
     let mut pending = Pending::new();
     let mut texts = Vec::new(alloc);
     let result = run_script(desk, &mut pending, &mut texts, reader, writer, turns);
-    desk.audit();
+    desk.known();
     result
 }

@@ -15,5 +15,6 @@ struct_crosses T all = recorded_send (Struct (declared.shape T)) T.D T.to T.to_o
 record_crosses : IsSend Record.the_field.row
 record_crosses = search (sendable, crosses) depth 20
 
+-- what notes a writer's bytes may cross where the writer may
 pub noting_crosses : (W : RattleType) → IsSend W → IsSend (Noting.the_row W)
 noting_crosses W w = struct_crosses (Noting.the_type W) (w, (record_crosses, tt))

@@ -7,13 +7,13 @@ use Rattle.xcp_slave.specs.declared.Request.TheVariants as requests
 use Rattle.xcp_bank.specs.BankEnds.{HoldsNumber, ReaderEnd}
 use Rattle.xcp_bank.specs.SeatKnowledge.{AllBegin}
 use Rattle.xcp_locked.specs.TaskImages.{IsTold, Took, TookImage}
-use Rattle.xcp_locked.specs.Tasks.{Duty, closing_of, event_of, requests_of}
+use Rattle.xcp_locked.specs.Tasks.{Duty, closing_of, cycle_event, receipt_requests}
 use Rattle.xcp_locked.specs.declared.receipt.Receipt.{Receipt}
 use Rattle.xcp_locked.proofs.TaskImageLaws.{took_told}
 use Rattle.xcp_seats.specs.Ticking.{Raised}
 
 -- an event that was accepted was raised: the image that is taken then isn't older
-pub raised_of : (layout : LayoutValue) (p : Duty) (k caller : ℕ) (old mid : List Receipt) (a b c : ReaderEnd) (accepted : Bool) → MatchBool accepted (IsTold layout caller (event_of p (k % 256)) old mid a b) ((mid ≡ old) × (b ≡ a))
+pub raised_of : (layout : LayoutValue) (p : Duty) (k caller : ℕ) (old mid : List Receipt) (a b c : ReaderEnd) (accepted : Bool) → MatchBool accepted (IsTold layout caller (cycle_event p (k % 256)) old mid a b) ((mid ≡ old) × (b ≡ a))
     → AllBegin (b.seen ∷ b.past) c.seen → ((number : ℕ) → HoldsNumber c number → length b.seen ≤ number + 1) → MatchBool accepted (Raised layout p k caller old mid c) (mid ≡ old)
 raised_of layout p k caller old mid a b c false told begins newest = told.0
 raised_of layout p k caller old mid a b c true told begins newest = record {
@@ -40,5 +40,5 @@ took_of layout event caller old mid a b c x y false told begins took = subst (λ
 })
 
 -- what task 0 submits behind its event is its closing
-pub closes_as : (p : Duty) (stored : List Receipt) → p.task ≡ 0 → ((stored ≡ []) ⊎ (requests_of stored ≡ requests.FinishStore ∷ [])) → (stored ≡ []) ⊎ (requests_of stored ≡ closing_of p)
+pub closes_as : (p : Duty) (stored : List Receipt) → p.task ≡ 0 → ((stored ≡ []) ⊎ (receipt_requests stored ≡ requests.FinishStore ∷ [])) → (stored ≡ []) ⊎ (receipt_requests stored ≡ closing_of p)
 closes_as p stored first h = rw first h

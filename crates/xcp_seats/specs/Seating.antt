@@ -9,7 +9,7 @@ use Rattle.xcp_framing.specs.declared.station.StationError.{StationError}
 use Rattle.xcp_locked.specs.Caller.{CallerValue}
 use Rattle.xcp_locked.specs.Receipts.{exchanges_of}
 use Rattle.xcp_locked.specs.Tasks.{Same}
-use Rattle.xcp_connection.specs.Connections.{Serves}
+use Rattle.xcp_connection.specs.Connections.{ServesConnection}
 use Rattle.xcp_seats.specs.declared.hall.Departure.{Departure}
 use Rattle.xcp_seats.specs.declared.hall.Departure.TheVariants as departures
 use Rattle.xcp_seats.specs.Trails.{Repeats}
@@ -48,18 +48,18 @@ Departs (departures.Others n) old new = (0 < n) × (new ≡ old)
 Departs (departures.Last result) old new = HangsUp result old new
 
 -- how a visit ended, as it is told: a Hangup that was refused is a fault where the connection had none
-abbrev pub told_of : Result Served ServeError → Departure → Result Served ServeError
-told_of (Err e) departure = Err e
-told_of (Ok served) (departures.Others n) = Ok served
-told_of (Ok served) (departures.Last (Ok x)) = Ok served
-told_of (Ok served) (departures.Last (Err e)) = Err (refused_with e)
+abbrev pub told_visit : Result Served ServeError → Departure → Result Served ServeError
+told_visit (Err e) departure = Err e
+told_visit (Ok served) (departures.Others n) = Ok served
+told_visit (Ok served) (departures.Last (Ok x)) = Ok served
+told_visit (Ok served) (departures.Last (Err e)) = Err (refused_with e)
 
 -- A tool was served with MAX_CTO m by these two, which are the same ones: `read` is all that was read of its connection, and `written`
 -- all that was written to it.
 pub record Attends (m : ℕ) (outcome : Result Served ServeError) (from to : Pair) : Type 0 where
   pub read : List ℕ
   pub written : List ℕ
-  pub serves : Serves m outcome (record { left = None; read = [] }) (record { left = None; read = read }) (Some []) (Some written) (had from.tool) (had to.tool) (had from.pump) (had to.pump)
+  pub serves : ServesConnection m outcome (record { left = None; read = [] }) (record { left = None; read = read }) (Some []) (Some written) (had from.tool) (had to.tool) (had from.pump) (had to.pump)
   pub same_tool : Same from.tool to.tool
   pub same_pump : Same from.pump to.pump
 

@@ -5,7 +5,7 @@ use Rattle.xcp_memory.specs.Layout.{LayoutValue}
 use Rattle.xcp_bank.specs.BankEnds.{ReaderEnd}
 use Rattle.xcp_locked.specs.Caller.{CallerValue}
 use Rattle.xcp_locked.specs.TaskImages.{IsNotOlder, Took}
-use Rattle.xcp_locked.specs.Tasks.{Duty, Same, closing_of, duty, event_of, requests_of}
+use Rattle.xcp_locked.specs.Tasks.{Duty, Same, closing_of, duty, cycle_event, receipt_requests}
 use Rattle.xcp_locked.specs.declared.receipt.Receipt.{Receipt}
 use Rattle.xcp_seats.specs.Trails.{Repeats}
 
@@ -30,7 +30,7 @@ pub record TaskValue : Type 0 where
 pub record Raised (layout : LayoutValue) (p : Duty) (cycle caller : ℕ) (old new : List Receipt) (reader : ReaderEnd) : Type 0 where
   pub call : Receipt
   pub added : new ≡ old ++ call ∷ []
-  pub asked : call.request ≡ event_of p (cycle % 256)
+  pub asked : call.request ≡ cycle_event p (cycle % 256)
   pub image : IsNotOlder layout caller call reader
 
 -- One cycle of a task: its event was submitted, unless it was refused, and an image was taken and read, which isn't older than the event,
@@ -44,7 +44,7 @@ pub record Ticked (layout : LayoutValue) (task : ℕ) (old new : TaskAt) : Type 
   pub raised : MatchBool accepted (Raised layout (duty old.caller task) old.cycle old.caller.number old.caller.receipts mid new.reader) (mid ≡ old.caller.receipts)
   pub stored : List Receipt
   pub grown : new.caller.receipts ≡ mid ++ stored
-  pub closes : (stored ≡ []) ⊎ (requests_of stored ≡ closing_of (duty old.caller task))
+  pub closes : (stored ≡ []) ⊎ (receipt_requests stored ≡ closing_of (duty old.caller task))
   -- the reader's steps, and the image that it read
   pub took : Took 1 accepted old.reader new.reader old.image new.image
   -- which is a whole one, so that the reader holds one where the event was accepted

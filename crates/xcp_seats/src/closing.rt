@@ -11,14 +11,14 @@ const TRIES: u32 = 4_294_967_295;
 /// A connection's socket to write to. Where a write fails, as it does too when the tool has read nothing for the time that was set at the
 /// socket, the connection is closed in both directions: whoever reads from it is not left waiting.
 #[derive(Drop)]
-pub struct Closing {
+pub struct ClosingSocket {
     stream: TcpStream,
 }
 
-impl Closing {
+impl ClosingSocket {
     /// Nothing has failed yet.
-    pub fn new(stream: TcpStream) -> Closing {
-        Closing { stream }
+    pub fn new(stream: TcpStream) -> ClosingSocket {
+        ClosingSocket { stream }
     }
 
     /// A write that is made again where a signal broke it off.
@@ -35,7 +35,7 @@ impl Closing {
     }
 }
 
-impl Write for Closing {
+impl Write for ClosingSocket {
     fn write(&mut self, buf: &[u8]) -> io::Result<usize> {
         let written = self.write_on(buf);
         if written.is_err() {

@@ -26,7 +26,7 @@ impl Door {
     }
 
     /// Nobody is connected any more.
-    pub fn clear(&self, rt: &impl Wait) {
+    pub fn forget(&self, rt: &impl Wait) {
         *self.stream.lock(rt) = None;
     }
 

@@ -1,7 +1,7 @@
 //! What is done beside seats and tasks.
 
 use crate::door::Door;
-use crate::entrance::Gate;
+use crate::entrance::Inlet;
 use crate::halt::Halt;
 use crate::lobby::Lobby;
 use crate::losses::Losses;
@@ -45,7 +45,7 @@ impl<'a, N: Name, M: Route, S: Scribe> Meanwhile<Result<Collector<N, M, S>, Halt
 pub struct Ward<'a, N: Name, M: Route, W> {
     pub alloc: Global,
     pub shared: &'a Shared<N, M>,
-    pub gate: Gate,
+    pub gate: Inlet,
     pub lobby: &'a Lobby,
     pub doors: &'a [Door],
     pub halt: &'a Halt,

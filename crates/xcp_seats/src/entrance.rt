@@ -12,20 +12,20 @@ use std::time::Clock;
 
 /// The socket by which tools come in, for whoever shuts it.
 #[derive(Drop)]
-pub struct Gate {
+pub struct Inlet {
     socket: TcpStream,
     how: Shutdown,
 }
 
-impl Gate {
+impl Inlet {
     /// The gate of a listener, or of a port.
-    pub fn new(access: &Access) -> io::Result<Gate> {
+    pub fn new(access: &Access) -> io::Result<Inlet> {
         // A call of the system shuts a socket whether it listens, is connected or takes datagrams: only its type here has none.
         let (socket, how) = match access {
             Access::Streams(listener) => (OwnedFd::from(listener.try_clone()?), Shutdown::Both),
             Access::Datagrams(port) => (OwnedFd::from(port.socket().try_clone()?), Shutdown::Read),
         };
-        Ok(Gate {
+        Ok(Inlet {
             socket: TcpStream::from(socket),
             how,
         })
@@ -50,7 +50,7 @@ pub struct Entrance<'a, W> {
 impl<'a, W: Watcher> Entrance<'a, W> {
     /// Accepts tools until the server is asked to end, and closes the connection of each that finds no seat and no place in the queue. At a
     /// port there is nothing to accept.
-    pub fn attend<R: Wait + Clock>(&self, rt: &R) {
+    pub fn accept_tools<R: Wait + Clock>(&self, rt: &R) {
         let Access::Streams(listener) = self.access else {
             return;
         };

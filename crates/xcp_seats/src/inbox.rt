@@ -1,7 +1,7 @@
 //! The datagrams of a port, as they come.
 ghost use Rattle.std.specs.Prelude.{◌≡◌, [], IfNone, IfOk, IfSome, None, drop, false, length, min, take};
 ghost use Rattle.xcp_framing.specs.Frames.{frames};
-ghost use Rattle.xcp_datagrams.specs.Datagrams.{connects, datagram_frames, fits, front, leaves};
+ghost use Rattle.xcp_datagrams.specs.Datagrams.{begins_with_connect, datagram_frames, fits, front, leaves};
 ghost use Rattle.xcp_datagrams.specs.Numbers.{HearsFrames};
 
 use std::alloc::{AllocError, Global};
@@ -111,7 +111,7 @@ impl Inbox {
 
     /// Whether the datagram's first packet is a CONNECT.
     pub(crate) fn connects(&self, max_cto: u8) -> bool
-        ensures { result ≡ connects (datagram_frames max_cto self.now.letter.bytes) }
+        ensures { result ≡ begins_with_connect (datagram_frames max_cto self.now.letter.bytes) }
     {
         self.has_fitting() && connects(max_cto, self.letter.as_bytes())
     }

@@ -1,7 +1,7 @@
 //! Frames that are sent to a tool in datagrams.
 ghost use Rattle.std.specs.Io.{WritesAtMost};
 
-use crate::closing::Closing;
+use crate::closing::ClosingSocket;
 use crate::port::Port;
 use std::io::{self, ErrorKind, Write};
 use std::net::SocketAddr;
@@ -33,7 +33,7 @@ impl Write for Mail<'_> {
 /// Where the frames for a tool go: its connection, or datagrams.
 #[derive(Drop)]
 pub(crate) enum Outgoing<'a> {
-    Stream(Closing),
+    Stream(ClosingSocket),
     Datagrams(Mail<'a>),
 }
 

@@ -1,7 +1,7 @@
 //! A UDP port at which tools reach a slave, one at a time.
 ghost use Rattle.std.specs.Io.{ReadsAtMost};
 ghost use Rattle.std.specs.Prelude.{IfSome};
-ghost use Rattle.xcp_datagrams.specs.Datagrams.{IsWhole};
+ghost use Rattle.xcp_datagrams.specs.Datagrams.{IsWholeFrames};
 
 use crate::halt::Halt;
 use crate::inbox::Inbox;
@@ -68,7 +68,7 @@ impl Port {
 
     /// Sends a datagram, which is whole frames. Where it can't be sent it is lost, and counted.
     pub(crate) fn send(&self, datagram: &[u8], to: SocketAddr)
-        requires { IsWhole 255 datagram.now }
+        requires { IsWholeFrames 255 datagram.now }
     {
         if self.socket.send_to(datagram, to).is_err() {
             let _ = self.unsent.fetch_add(1, Ordering::Relaxed);

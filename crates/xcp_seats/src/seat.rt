@@ -1,9 +1,9 @@
 //! A seat for one tool after another.
 ghost use Rattle.std.specs.Prelude.{◌≡◌, ◌⊎◌};
-ghost use Rattle.xcp_seats.specs.Seating.{Attends, Sat, Visits, pair, told_of};
+ghost use Rattle.xcp_seats.specs.Seating.{Attends, Sat, Visits, pair, told_visit};
 
 use crate::access::{Access, Line};
-use crate::closing::Closing;
+use crate::closing::ClosingSocket;
 use crate::door::Door;
 use crate::hall::{Departure, Hall};
 use crate::halt::Halt;
@@ -32,7 +32,7 @@ const PUMP_TURNS: u32 = 1_000_000_000;
 
 /// Where a seat is.
 #[derive(Drop)]
-pub struct Place<'a, W> {
+pub struct SeatPlace<'a, W> {
     pub number: u8,
     pub max_cto: u8,
     pub times: Times,
@@ -53,7 +53,7 @@ pub struct Seat<'a, N: Name, M: Route, W, T> {
     pub alloc: Global,
     pub tool: Member<N, M>,
     pub pump: Member<N, M>,
-    pub place: Place<'a, W>,
+    pub place: SeatPlace<'a, W>,
 }
 
 // Clauses see its number, its members and MAX_CTO alone, which keeps proofs about its thread small.
@@ -67,7 +67,7 @@ impl<'a, N: Name, M: Route, W, T> Model for Seat<'a, N, M, W, T> {
 
 /// The members of a seat, once nobody is served any more.
 #[derive(Drop)]
-pub struct Left<N: Name, M: Route> {
+pub struct SeatMembers<N: Name, M: Route> {
     pub tool: Member<N, M>,
     pub pump: Member<N, M>,
 }
@@ -79,7 +79,7 @@ pub fn sit<
     M: Route + Send + Sync,
     W: Watcher + Sync,
     T: Threads + Wait + Clock + Sync,
->(seat: Seat<'a, N, M, W, T>) -> Left<N, M>
+>(seat: Seat<'a, N, M, W, T>) -> SeatMembers<N, M>
     ensures { Sat seat.entry.max_cto (pair seat.entry.tool seat.entry.pump) (pair result.tool result.pump) }
 {
     let Seat {
@@ -90,7 +90,7 @@ pub fn sit<
         pump,
         place,
     } = seat;
-    let mut left = Left { tool, pump };
+    let mut left = SeatMembers { tool, pump };
     for _visit in rt.forever() {
         let Some((line, address)) = next_tool(rt, &place) else {
             break;
@@ -104,7 +104,7 @@ pub fn sit<
 /// The next tool, by what it is served, and its address. `None` where there is none any more. At a port the first seat alone has tools.
 fn next_tool<'a, W: Watcher, T: Wait + Clock>(
     rt: &T,
-    place: &Place<'a, W>,
+    place: &SeatPlace<'a, W>,
 ) -> Option<(Line<'a>, SocketAddr)> {
     match place.access {
         Access::Streams(_) => {
@@ -124,11 +124,11 @@ fn next_tool<'a, W: Watcher, T: Wait + Clock>(
 
 impl<'a, N: Name, M: Route, W, T> Seat<'a, N, M, W, T> {
     /// The members of a seat that didn't begin.
-    pub fn leave(self) -> Left<N, M>
+    pub fn leave(self) -> SeatMembers<N, M>
         ensures { Sat self.entry.max_cto (pair self.entry.tool self.entry.pump) (pair result.tool result.pump) }
     {
         let Seat { tool, pump, .. } = self;
-        Left { tool, pump }
+        SeatMembers { tool, pump }
     }
 }
 
@@ -142,16 +142,16 @@ fn visit<
     rt: &T,
     alloc: Global,
     shared: &Shared<N, M>,
-    place: &Place<'_, W>,
+    place: &SeatPlace<'_, W>,
     line: Line<'_>,
     address: SocketAddr,
-    left: Left<N, M>,
-) -> Left<N, M>
+    left: SeatMembers<N, M>,
+) -> SeatMembers<N, M>
     ensures { Visits place.now.max_cto (pair left.tool left.pump) (pair result.tool result.pump) }
 {
     place.watcher.came(place.number, address);
     place.hall.enter(rt);
-    let Left { tool, pump } = left;
+    let SeatMembers { tool, pump } = left;
     let tool = Seated::new(rt, alloc, shared, tool, place.number);
     let pump = Seated::new(rt, alloc, shared, pump, place.number);
     let was_idle = AtomicBool::new(false);
@@ -165,7 +165,7 @@ fn visit<
     place
         .watcher
         .gone(place.number, address, told_end(end, departure));
-    Left {
+    SeatMembers {
         tool: tool.into_member(),
         pump: pump.into_member(),
     }
@@ -173,7 +173,7 @@ fn visit<
 
 /// How a visit ended, as it is told: a Hangup that was refused is a fault where the connection had none.
 fn told_end(end: Result<Served, ServeError>, departure: Departure) -> Result<Served, ServeError>
-    ensures { result ≡ told_of end departure }
+    ensures { result ≡ told_visit end departure }
 {
     let served = end?;
     if let Departure::Last(Err(refused)) = departure {
@@ -201,7 +201,7 @@ fn serve_tool<
     rt: &'r T,
     alloc: Global,
     shared: &'r Shared<N, M>,
-    place: &Place<'_, W>,
+    place: &SeatPlace<'_, W>,
     line: Line<'_>,
     address: SocketAddr,
     was_idle: &AtomicBool,
@@ -233,7 +233,7 @@ fn serve_tool<
         },
         write_size,
     );
-    place.door.clear(rt);
+    place.door.forget(rt);
     match attended {
         Ok(
             Attended {
@@ -250,7 +250,7 @@ fn serve_tool<
 /// What is read of a tool, and where what is written for it goes. Who closes its connection can do so from now on.
 fn ends_of<'a, W, T: Wait + Clock>(
     rt: &'a T,
-    place: &Place<'a, W>,
+    place: &SeatPlace<'a, W>,
     line: Line<'a>,
     address: SocketAddr,
     was_idle: &'a AtomicBool,
@@ -283,6 +283,6 @@ fn ends_of<'a, W, T: Wait + Clock>(
     }
     Some((
         Patient::new(stream, place.times, was_idle),
-        Outgoing::Stream(Closing::new(writer)),
+        Outgoing::Stream(ClosingSocket::new(writer)),
     ))
 }

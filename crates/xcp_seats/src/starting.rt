@@ -4,7 +4,7 @@ ghost use Rattle.xcp_seats.specs.Seating.{Sat, pair};
 
 use crate::duty::Ward;
 use crate::entrance::Entrance;
-use crate::seat::{Left, Seat, sit};
+use crate::seat::{Seat, SeatMembers, sit};
 use crate::watcher::Watcher;
 use std::snapshot::Snapshot;
 use std::sync::{Mutex, Wait};
@@ -17,7 +17,7 @@ use xcp_service::Route;
 #[derive(Drop)]
 pub struct Sits<'a, N: Name, M: Route, W, T>(pub Snapshot<Seat<'a, N, M, W, T>>);
 
-impl<'a, N: Name, M: Route, W, T> Promise<Left<N, M>> for Sits<'a, N, M, W, T> {
+impl<'a, N: Name, M: Route, W, T> Promise<SeatMembers<N, M>> for Sits<'a, N, M, W, T> {
     ghost use Rattle.xcp_seats.specs.Seating.{Sat, pair};
 
     ghost kept_by = { λ p l. Sat p.0.value.max_cto (pair p.0.value.tool p.0.value.pump) (pair l.tool l.pump) };
@@ -36,7 +36,7 @@ pub fn start_seat<
     rt: &'s T,
     start: &'s Mutex<bool>,
     seat: Seat<'s, N, M, W, T>,
-) -> Option<PromisedHandle<Left<N, M>, Sits<'s, N, M, W, T>>>
+) -> Option<PromisedHandle<SeatMembers<N, M>, Sits<'s, N, M, W, T>>>
     ensures { IfSome result (λ h. h.promise.0.value ≡ seat.entry) }
 {
     let promise = Sits(Snapshot::of(&seat));
@@ -52,7 +52,7 @@ fn once_started<
     M: Route + Send + Sync,
     W: Watcher + Sync,
     T: Threads + Wait + Clock + Sync,
->(rt: &T, start: &Mutex<bool>, seat: Seat<'a, N, M, W, T>) -> Left<N, M>
+>(rt: &T, start: &Mutex<bool>, seat: Seat<'a, N, M, W, T>) -> SeatMembers<N, M>
     ensures { Sat seat.entry.max_cto (pair seat.entry.tool seat.entry.pump) (pair result.tool result.pump) }
 {
     let go = *start.lock(rt);
@@ -87,7 +87,7 @@ pub fn start_entrance<'s, E, W: Watcher + Sync + 's, T: Threads + Wait + Clock +
     scope
         .spawn(move || {
             if *start.lock(rt) {
-                entrance.attend(rt);
+                entrance.accept_tools(rt);
             }
         })
         .is_ok()

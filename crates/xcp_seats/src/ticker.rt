@@ -2,7 +2,7 @@
 ghost use Rattle.std.specs.Prelude.{◌≡◌, ◌⊎◌, ◌+◌, ◌%◌, ◌^◌, [], ◌∷◌, ◌++◌, List, MatchBool};
 ghost use Rattle.xcp_slave.specs.AskedRequest.{IsShort, request_asked};
 ghost use Rattle.xcp_locked.specs.TaskImages.{IsTold};
-ghost use Rattle.xcp_locked.specs.Tasks.{Same, closing_of, duty, event_of, requests_of};
+ghost use Rattle.xcp_locked.specs.Tasks.{Same, closing_of, duty, cycle_event, receipt_requests};
 ghost use Rattle.xcp_seats.specs.Ticking.{Ticked, Ticks, task_at};
 
 use crate::halt::Halt;
@@ -164,12 +164,12 @@ fn raise<N: Name, M: Route>(
     reader: &mut Reader<N>,
 ) -> bool
     ensures told { MatchBool result
-        (IsTold N.layout member.old.number (event_of (duty member.old task) (number % 256))
+        (IsTold N.layout member.old.number (cycle_event (duty member.old task) (number % 256))
         member.old.receipts member.new.receipts reader.old reader.new)
         ((member.new.receipts ≡ member.old.receipts) × (reader.new ≡ reader.old)) }
     ensures same { Same member.old member.new }
 {
-    let request = event(member.caller(), task, (number % 256) as u32);
+    let request = event(member.own_caller(), task, (number % 256) as u32);
     member.reserve();
     let mut resident = shared.lock.as_ref().lock(rt);
     shared.tell_time(rt, clock, alloc, &mut resident);
@@ -181,7 +181,7 @@ fn raise<N: Name, M: Route>(
         losses,
         member,
         reader,
-        request.asked(),
+        request.lent(),
     )
 }
 
@@ -222,7 +222,7 @@ fn store<N: Name, M: Route>(
     member: &mut Member<N, M>,
 )
     ensures stored { (stored : List _) × (member.new.receipts ≡ member.old.receipts ++ stored)
-        × ((stored ≡ []) ⊎ (requests_of stored ≡ Request.FinishStore ∷ [])) }
+        × ((stored ≡ []) ⊎ (receipt_requests stored ≡ Request.FinishStore ∷ [])) }
     ensures same { Same member.old member.new }
 {
     let mut packet = Packet::new();

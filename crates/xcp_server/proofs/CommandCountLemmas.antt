@@ -9,7 +9,7 @@ use Rattle.xcp_slave.specs.declared.Exchange.{Exchange}
 use Rattle.xcp_slave.specs.declared.Request.{Request}
 use Rattle.xcp_slave.specs.declared.Request.TheVariants as requests
 use Rattle.xcp_slave.specs.Run.{requests_of}
-use Rattle.xcp_framing.specs.CountedCalls.{Place}
+use Rattle.xcp_framing.specs.CountedCalls.{StreamPlace}
 use Rattle.xcp_framing.specs.ServeBy.{ServesBy, command}
 use Rattle.xcp_trace.specs.declared.Entry.{Entry}
 use Rattle.xcp_framing.specs.CountedCalls.{Watched}
@@ -27,7 +27,7 @@ use Rattle.xcp_server.specs.LastHangup.{EndsSession, HungUp}
 use Rattle.xcp_locked.specs.PairedLists.{EachFrom}
 use Rattle.xcp_locked.specs.Receipts.{exchanges_of, receipt}
 use Rattle.std.specs.Option.{option_or}
-use Rattle.xcp_server.specs.ServerOutcome.{CountTheirCommands, ServedAt, commands, is_command}
+use Rattle.xcp_server.specs.ServerOutcome.{CountTheirCommands, ServedAt, command_count, is_command}
 use Rattle.xcp_locked.specs.Tasks.{refused_with}
 use Rattle.xcp_locked.proofs.TallyLemmas.{none≢some, some_same}
 
@@ -66,13 +66,13 @@ by_commands (p ∷ ps) (x ∷ xs) is =
     let rest = by_commands ps xs (ap others_of is) in
     omega (arith, whole, one, rest)
 
-commands_one : (r : Receipt) (rs : List Receipt) → commands (r ∷ rs) ≡ one_if r.request + commands rs
+commands_one : (r : Receipt) (rs : List Receipt) → command_count (r ∷ rs) ≡ one_if r.request + command_count rs
 commands_one r rs = sum_by-cons (λ (x : Receipt). one_if x.request) r rs
 
-commands_both : (xs ys : List Receipt) → commands (xs ++ ys) ≡ commands xs + commands ys
+commands_both : (xs ys : List Receipt) → command_count (xs ++ ys) ≡ command_count xs + command_count ys
 commands_both xs ys = sum_by-append (λ (x : Receipt). one_if x.request) xs ys
 
-asked_commands : (rs : List Receipt) → asked (exchanges_of rs) ≡ commands rs
+asked_commands : (rs : List Receipt) → asked (exchanges_of rs) ≡ command_count rs
 asked_commands [] = refl
 asked_commands (r ∷ rs) =
     let a = asked_one (record { request = r.request; answer = r.answer }) (exchanges_of rs) in
@@ -81,7 +81,7 @@ asked_commands (r ∷ rs) =
     omega (arith, a, b, c)
 
 -- a stream that ended well counted the commands of a caller that had made no call before
-stream_counts : (m : ℕ) (end : Result Served ServeError) (served : Served) (from to : Place) (old new : List Receipt) (before after : List (List ℕ)) → ServesBy m end from to (exchanges_of old) (exchanges_of new) before after → end ≡ Ok served → old ≡ [] → served.frames ≡ commands new
+stream_counts : (m : ℕ) (end : Result Served ServeError) (served : Served) (from to : StreamPlace) (old new : List Receipt) (before after : List (List ℕ)) → ServesBy m end from to (exchanges_of old) (exchanges_of new) before after → end ≡ Ok served → old ≡ [] → served.frames ≡ command_count new
 stream_counts m end served from to old new before after h is none =
     let s : ServesBy m (Ok served) from to [] (exchanges_of new) before after =
     subst (λ e. ServesBy m e from to [] (exchanges_of new) before after) is (subst (λ rs. ServesBy m end from to (exchanges_of rs) (exchanges_of new) before after) none h) in
@@ -140,23 +140,23 @@ get_set (a ∷ more) v x y z zero first old new = inl (some_same x z (sym old �
 get_set (a ∷ more) v x y z (suc i) first old new = inr (some_same x y (sym old ∙ new))
 
 -- the last Hangup is no command
-hangup_counts_none : (before after : Option TaskError) (old new : List CallerValue) (ch : ℕ) (journal : List Entry) (i : ℕ) (o c : CallerValue) → HungUp before after old new ch journal → slice_get old i ≡ Some o → slice_get new i ≡ Some c → commands c.receipts ≡ commands o.receipts
+hangup_counts_none : (before after : Option TaskError) (old new : List CallerValue) (ch : ℕ) (journal : List Entry) (i : ℕ) (o c : CallerValue) → HungUp before after old new ch journal → slice_get old i ≡ Some o → slice_get new i ≡ Some c → command_count c.receipts ≡ command_count o.receipts
 hangup_counts_none before after old new ch journal i o c h was is = ⊎_elim accepted refused h.outcome
   where
-    accepted : (earlier : List Entry) × (answer : Answer) × (journal ≡ earlier ++ entry h.caller.number requests.Hangup answer ∷ []) × (new ≡ slice_set old 0 (accepting h.caller (receipt ch (length earlier) requests.Hangup answer))) × (after ≡ before) → commands c.receipts ≡ commands o.receipts
+    accepted : (earlier : List Entry) × (answer : Answer) × (journal ≡ earlier ++ entry h.caller.number requests.Hangup answer ∷ []) × (new ≡ slice_set old 0 (accepting h.caller (receipt ch (length earlier) requests.Hangup answer))) × (after ≡ before) → command_count c.receipts ≡ command_count o.receipts
     accepted a = ⊎_elim
         (λ first.
-        let one = ap (λ (x : CallerValue). commands x.receipts) (sym first.1) ∙ commands_both h.caller.receipts (receipt ch (length a.0) requests.Hangup a.1 ∷ []) in
+        let one = ap (λ (x : CallerValue). command_count x.receipts) (sym first.1) ∙ commands_both h.caller.receipts (receipt ch (length a.0) requests.Hangup a.1 ∷ []) in
         let none : one_if requests.Hangup ≡ 0 = refl in
         let last = commands_one (receipt ch (length a.0) requests.Hangup a.1) [] in
-        let nothing : commands [] ≡ 0 = refl in
-        let same = ap (λ (x : CallerValue). commands x.receipts) first.0 in
+        let nothing : command_count [] ≡ 0 = refl in
+        let same = ap (λ (x : CallerValue). command_count x.receipts) first.0 in
         omega (arith, one, none, last, nothing, same))
-        (λ other. ap (λ (x : CallerValue). commands x.receipts) (sym other))
+        (λ other. ap (λ (x : CallerValue). command_count x.receipts) (sym other))
         (get_set old (accepting h.caller (receipt ch (length a.0) requests.Hangup a.1)) o c h.caller i h.first was (ap (λ cs. slice_get cs i) (sym a.3) ∙ is))
 
-    refused : (e : LockedError) × (new ≡ old) × (after ≡ option_or before (Some (refused_with e))) → commands c.receipts ≡ commands o.receipts
-    refused r = ap (λ (x : CallerValue). commands x.receipts) (some_same c o (sym is ∙ (ap (λ cs. slice_get cs i) r.1 ∙ was)))
+    refused : (e : LockedError) × (new ≡ old) × (after ≡ option_or before (Some (refused_with e))) → command_count c.receipts ≡ command_count o.receipts
+    refused r = ap (λ (x : CallerValue). command_count x.receipts) (some_same c o (sym is ∙ (ap (λ cs. slice_get cs i) r.1 ∙ was)))
 
 -- each connection that ended well counted the commands of its tool's caller
 pub all_count : {I O : Type 0} (remaining : I → Option (List ℕ)) (contents : O → Option (List ℕ)) (m turns : ℕ) (l : LayoutValue) (n : ℕ) (given : List (Watched I × Watched O)) (closed : List (Closed CallerValue I O)) (outcomes : List (Result Served ServeError)) (tools pumps hired spare others last new : List CallerValue) (ch : ℕ) (journal : List Entry) (before after : Option TaskError)

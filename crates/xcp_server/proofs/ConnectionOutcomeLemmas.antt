@@ -18,7 +18,7 @@ use Rattle.xcp_locked.specs.Caller.{CallerValue}
 use Rattle.xcp_locked.specs.declared.tool.Tool.{Tool}
 use Rattle.xcp_server.specs.ServerOutcome.{ServedAt}
 use Rattle.xcp_server.specs.private.ConnectionParts.{CameOfTools, IsConnectionWithin, IsEndOf}
-use Rattle.xcp_server.specs.private.Dispatching.{Ends, IsFresh, IsPartedAt, IsUnput, before_at, failures_at, outlet_at}
+use Rattle.xcp_server.specs.private.Dispatching.{ThreeEnds, IsFreshDispatch, IsPartedAt, IsUnput, before_at, failures_at, outlet_at}
 
 -- the first of some, and the others
 pub each_of_one : {A : Type 0} (P : A → Type 0) (xs more : List A) (x : A) → AllByRecursion P xs → xs ≡ x ∷ more → P x
@@ -41,20 +41,20 @@ outlets_all cs [] n was long none is = sym (append-nil (map (λ x. x.0.replies.o
 outlets_all cs (e ∷ es) n was long none is = absurd (omega (arith, long, none))
 
 -- the two ends of each outlet have put nothing
-pub unput_ends : (os : List Ends) (es : List (EndSeen × EndSeen)) → AllByRecursion IsFresh os → es ≡ map (λ o. (o.0, o.1)) os → AllByRecursion IsUnput es
+pub unput_ends : (os : List ThreeEnds) (es : List (EndSeen × EndSeen)) → AllByRecursion IsFreshDispatch os → es ≡ map (λ o. (o.0, o.1)) os → AllByRecursion IsUnput es
 unput_ends os es fresh is = subst (AllByRecursion IsUnput) (sym is) (each os fresh)
   where
-    each : (os : List Ends) → AllByRecursion IsFresh os → AllByRecursion IsUnput (map (λ o. (o.0, o.1)) os)
+    each : (os : List ThreeEnds) → AllByRecursion IsFreshDispatch os → AllByRecursion IsUnput (map (λ o. (o.0, o.1)) os)
     each [] fresh = tt
     each (o ∷ os) fresh =
         let same : o.2.outlet ≡ o.0.outlet = sym (ap (λ (e : EndSeen). e.outlet) fresh.0.replies) in
         (record { replies = rw same at fresh.0.replies; samples = rw same at fresh.0.samples }, each os fresh.1)
 
 -- and are of it
-pub ends_outlets : (os : List Ends) (es : List (EndSeen × EndSeen)) → AllByRecursion IsFresh os → es ≡ map (λ o. (o.0, o.1)) os → map (λ (e : EndSeen × EndSeen). e.0.outlet) es ≡ map (λ (o : Ends). o.2.outlet) os
+pub ends_outlets : (os : List ThreeEnds) (es : List (EndSeen × EndSeen)) → AllByRecursion IsFreshDispatch os → es ≡ map (λ o. (o.0, o.1)) os → map (λ (e : EndSeen × EndSeen). e.0.outlet) es ≡ map (λ (o : ThreeEnds). o.2.outlet) os
 ends_outlets os es fresh is = ap (λ xs. map (λ (e : EndSeen × EndSeen). e.0.outlet) xs) is ∙ each os fresh
   where
-    each : (os : List Ends) → AllByRecursion IsFresh os → map (λ (e : EndSeen × EndSeen). e.0.outlet) (map (λ o. (o.0, o.1)) os) ≡ map (λ (o : Ends). o.2.outlet) os
+    each : (os : List ThreeEnds) → AllByRecursion IsFreshDispatch os → map (λ (e : EndSeen × EndSeen). e.0.outlet) (map (λ o. (o.0, o.1)) os) ≡ map (λ (o : ThreeEnds). o.2.outlet) os
     each [] fresh = refl
     each (o ∷ os) fresh =
         let same : o.0.outlet ≡ o.2.outlet = ap (λ (e : EndSeen). e.outlet) fresh.0.replies in
@@ -108,7 +108,7 @@ module _ {N T R I P F O : Type 0} (contents : O → Option (List ℕ)) (outlet :
     pub failures_is : failures place ≡ e.1.failures
 
   -- each connection, where the name tells all outlets and all writers
-  pub named_each : (k : ℕ) (es : List (Watched I × Watched O)) (os : List Ends) (cs : List (Connection N T (Tool N R) I P F)) → length cs ≡ length es → map (λ c. c.0.replies.outlet) cs ≡ map (λ o. o.2.outlet) os
+  pub named_each : (k : ℕ) (es : List (Watched I × Watched O)) (os : List ThreeEnds) (cs : List (Connection N T (Tool N R) I P F)) → length cs ≡ length es → map (λ c. c.0.replies.outlet) cs ≡ map (λ o. o.2.outlet) os
       → ((i : ℕ) → outlet (k + i) ≡ outlet_at os i) → ((i : ℕ) → before (k + i) ≡ before_at contents es i) → ((i : ℕ) → failures (k + i) ≡ failures_at es i) → EachFrom IsNamedAt k es cs
   named_each k [] os [] long same a b d = tt
   named_each k [] os (c ∷ cs) long same a b d = absurd (omega (arith, long))
@@ -180,7 +180,7 @@ module _ {N T R I P F O : Type 0} (remaining : I → Option (List ℕ)) (content
       }
 
   -- all of them
-  pub all_came : (tools drains : List CallerValue) (outlet : ℕ → Outlet) (before : ℕ → Option (List ℕ)) (failures : ℕ → ℕ) (es : List (Watched I × Watched O)) (os : List Ends) (cs : List (Connection N T (Tool N R) I P F)) (ps : List (Heard (Tool N R) I × Pumped (Tool N R))) (ds : List (Parted (Tool N R) I O))
+  pub all_came : (tools drains : List CallerValue) (outlet : ℕ → Outlet) (before : ℕ → Option (List ℕ)) (failures : ℕ → ℕ) (es : List (Watched I × Watched O)) (os : List ThreeEnds) (cs : List (Connection N T (Tool N R) I P F)) (ps : List (Heard (Tool N R) I × Pumped (Tool N R))) (ds : List (Parted (Tool N R) I O))
       → EachFrom (λ i e c. (IsConnectionWithin limits e.0 c × (slice_get tools i ≡ Some c.0.station.caller)) × (slice_get drains i ≡ Some c.1.station.caller)) 0 es cs
       → map (λ c. c.0.replies.outlet) cs ≡ map (λ o. o.2.outlet) os → ((i : ℕ) → outlet i ≡ outlet_at os i) → ((i : ℕ) → before i ≡ before_at contents es i) → ((i : ℕ) → failures i ≡ failures_at es i)
       → AllZip (CameOfTools remaining) cs ps → EachFrom (IsPartedAt contents outlet before failures) 0 ps ds → EachFrom (CameSomehowAt T P F remaining contents limits tools drains) 0 es ds

@@ -4,7 +4,7 @@ use Rattle.std.specs.Prelude.{Option}
 use Rattle.std.specs.List.{AllByRecursion, AllZip}
 use Rattle.xcp_framing.specs.CountedCalls.{Watched}
 use Rattle.xcp_outlet.specs.OutletEnds.{Outlet}
-use Rattle.xcp_outlet.specs.Sending.{Sends}
+use Rattle.xcp_outlet.specs.Sending.{SendsMessages}
 use Rattle.xcp_connection.specs.Parts.{Parted}
 use Rattle.xcp_connection.specs.Sending.{WroteAs, WroteFor}
 use Rattle.xcp_connection.specs.declared.hearing.Heard.{Heard}
@@ -12,7 +12,7 @@ use Rattle.xcp_connection.specs.declared.pumping.Pumped.{Pumped}
 use Rattle.xcp_connection.specs.declared.sending.Wrote.{Wrote}
 use Rattle.xcp_locked.specs.PairedLists.{EachFrom}
 use Rattle.xcp_locked.proofs.PairedListLemmas.{each_more}
-use Rattle.xcp_server.specs.private.Dispatching.{Ends, IsFresh, IsPartedAt, before_at, failures_at, outlet_at}
+use Rattle.xcp_server.specs.private.Dispatching.{ThreeEnds, IsFreshDispatch, IsPartedAt, before_at, failures_at, outlet_at}
 
 -- what holds of each holds of one more
 each_and_one : {A : Type 0} (P : A → Type 0) (xs : List A) (x : A) → AllByRecursion P xs → P x → AllByRecursion P (xs ++ x ∷ [])
@@ -20,8 +20,8 @@ each_and_one P [] x h one = (one, tt)
 each_and_one P (y ∷ xs) x h one = (h.0, each_and_one P xs x h.1 one)
 
 -- one more outlet in which nothing was put
-pub each_fresh_more : (es more : List Ends) (e : Ends) → AllByRecursion IsFresh es → IsFresh e → more ≡ es ++ e ∷ [] → AllByRecursion IsFresh more
-each_fresh_more es more e h one is = subst (λ z. AllByRecursion IsFresh z) (sym is) (each_and_one IsFresh es e h one)
+pub each_fresh_more : (es more : List ThreeEnds) (e : ThreeEnds) → AllByRecursion IsFreshDispatch es → IsFreshDispatch e → more ≡ es ++ e ∷ [] → AllByRecursion IsFreshDispatch more
+each_fresh_more es more e h one is = subst (λ z. AllByRecursion IsFreshDispatch z) (sym is) (each_and_one IsFreshDispatch es e h one)
 
 -- what is known by the places from one on: of this one, and of those from the next one on
 pub this_place : {A : Type 0} (f g : ℕ → A) (n : ℕ) → ((i : ℕ) → f (n + i) ≡ g i) → g 0 ≡ f n
@@ -35,10 +35,11 @@ pub from_start : {A X : Type 0} (f : ℕ → A) (g : X → ℕ → A) (was now :
 from_start f g was now h same i = let e : 0 + i ≡ i = omega arith in ap f e ∙ (h i ∙ ap (λ z. g z i) (sym same))
 
 -- the outlet at a place is the first of those from there on, and the others are those from the next place on
-pub this_outlet : (outlet : ℕ → Outlet) (n : ℕ) (es more : List Ends) (e : Ends) → ((i : ℕ) → outlet (n + i) ≡ outlet_at es i) → es ≡ e ∷ more → e.2.outlet ≡ outlet n
+pub this_outlet : (outlet : ℕ → Outlet) (n : ℕ) (es more : List ThreeEnds) (e : ThreeEnds) → ((i : ℕ) → outlet (n + i) ≡ outlet_at es i) → es ≡ e ∷ more → e.2.outlet ≡ outlet n
 this_outlet outlet n es more e was steps = sym (ap (λ z. outlet_at z 0) steps) ∙ this_place outlet (outlet_at es) n was
 
-pub next_outlets : (outlet : ℕ → Outlet) (n : ℕ) (es more : List Ends) (e : Ends) → ((i : ℕ) → outlet (n + i) ≡ outlet_at es i) → es ≡ e ∷ more → (i : ℕ) → outlet ((n + 1) + i) ≡ outlet_at more i
+-- where the first is passed over, the others are the outlets from the next place on
+pub next_outlets : (outlet : ℕ → Outlet) (n : ℕ) (es more : List ThreeEnds) (e : ThreeEnds) → ((i : ℕ) → outlet (n + i) ≡ outlet_at es i) → es ≡ e ∷ more → (i : ℕ) → outlet ((n + 1) + i) ≡ outlet_at more i
 next_outlets outlet n es more e was steps i = next_place outlet (outlet_at es) n was i ∙ ap (λ z. outlet_at z (suc i)) steps
 
 module _ {I O : Type 0} where
@@ -83,7 +84,7 @@ module _ {S I O : Type 0} (contents : O → Option (List ℕ)) (outlet : ℕ →
   parts_each k [] (d ∷ ds) h = absurd h
   parts_each k (p ∷ ps) [] h = absurd h
 
-  outlets_from : (k : ℕ) (es : List Ends) (ps : List (Heard S I × Pumped S)) (ds : List (Parted S I O)) → length es ≡ length ps → ((i : ℕ) → outlet (k + i) ≡ outlet_at es i) → EachFrom (IsPartedAt contents outlet before failures) k ps ds → AllZip (λ (e : Ends) (d : Parted S I O). d.2.sent.took.outlet ≡ e.2.outlet) es ds
+  outlets_from : (k : ℕ) (es : List ThreeEnds) (ps : List (Heard S I × Pumped S)) (ds : List (Parted S I O)) → length es ≡ length ps → ((i : ℕ) → outlet (k + i) ≡ outlet_at es i) → EachFrom (IsPartedAt contents outlet before failures) k ps ds → AllZip (λ (e : ThreeEnds) (d : Parted S I O). d.2.sent.took.outlet ≡ e.2.outlet) es ds
   outlets_from k [] [] [] l o h = tt
   outlets_from k [] [] (d ∷ ds) l o h = absurd h
   outlets_from k [] (p ∷ ps) ds l o h = absurd (omega (arith, l))
@@ -92,7 +93,7 @@ module _ {S I O : Type 0} (contents : O → Option (List ℕ)) (outlet : ℕ →
   outlets_from k (e ∷ es) (p ∷ ps) (d ∷ ds) l o h = (h.0.wrote.same ∙ sym (this_outlet outlet k (e ∷ es) es e o refl), outlets_from (k + 1) es ps ds (omega (arith, l)) (next_outlets outlet k (e ∷ es) es e o refl) h.1)
 
   -- what was taken is of the connection's own outlet
-  pub outlets_each : (es : List Ends) (ps : List (Heard S I × Pumped S)) (ds : List (Parted S I O)) → length es ≡ length ps → ((i : ℕ) → outlet i ≡ outlet_at es i) → EachFrom (IsPartedAt contents outlet before failures) 0 ps ds → AllZip (λ (e : Ends) (d : Parted S I O). d.2.sent.took.outlet ≡ e.2.outlet) es ds
+  pub outlets_each : (es : List ThreeEnds) (ps : List (Heard S I × Pumped S)) (ds : List (Parted S I O)) → length es ≡ length ps → ((i : ℕ) → outlet i ≡ outlet_at es i) → EachFrom (IsPartedAt contents outlet before failures) 0 ps ds → AllZip (λ (e : ThreeEnds) (d : Parted S I O). d.2.sent.took.outlet ≡ e.2.outlet) es ds
   outlets_each es ps ds l o h = outlets_from 0 es ps ds l (from_start outlet outlet_at es es o refl) h
 
   sends_from : (k : ℕ) (ss : List (Watched I × Watched O)) (ps : List (Heard S I × Pumped S)) (ds : List (Parted S I O)) → length ss ≡ length ps → ((i : ℕ) → before (k + i) ≡ before_at contents ss i) → ((i : ℕ) → failures (k + i) ≡ failures_at ss i) → EachFrom (IsPartedAt contents outlet before failures) k ps ds → AllZip (λ s d. WroteFor contents d.2.sent.took.outlet s.1 d.2) ss ds
@@ -106,8 +107,8 @@ module _ {S I O : Type 0} (contents : O → Option (List ℕ)) (outlet : ℕ →
       let failed : failures k ≡ s.1.failures = sym (this_failures failures k (s ∷ ss) ss s f refl) in (
         record {
           same = refl;
-          sends = subst (λ n. Sends d.2.sent.count d.2.sent.took.taken (contents s.1.inner) (contents d.2.writer.value.inner) n d.2.writer.value.failures) failed
-              (subst (λ z. Sends d.2.sent.count d.2.sent.took.taken z (contents d.2.writer.value.inner) (failures k) d.2.writer.value.failures) had h.0.wrote.sends);
+          sends = subst (λ n. SendsMessages d.2.sent.count d.2.sent.took.taken (contents s.1.inner) (contents d.2.writer.value.inner) n d.2.writer.value.failures) failed
+              (subst (λ z. SendsMessages d.2.sent.count d.2.sent.took.taken z (contents d.2.writer.value.inner) (failures k) d.2.writer.value.failures) had h.0.wrote.sends);
         },
         sends_from (k + 1) ss ps ds (omega (arith, l)) (next_befores contents before k (s ∷ ss) ss s b refl) (next_failures failures k (s ∷ ss) ss s f refl) h.1,
       )

@@ -4,9 +4,9 @@ use Rattle.xcp_framing.specs.Pump.{Pumps}
 use Rattle.xcp_framing.specs.Serve.{EndsReader}
 use Rattle.xcp_framing.specs.ServeBy.{ServesBy}
 use Rattle.xcp_framing.specs.ServeParts.{IsInterruption}
-use Rattle.xcp_framing.specs.CountedCalls.{Watched, place_of}
+use Rattle.xcp_framing.specs.CountedCalls.{Watched, stream_place}
 use Rattle.xcp_framing.specs.declared.serving.ServeError.TheVariants as errors
-use Rattle.xcp_outlet.specs.Sending.{Sends}
+use Rattle.xcp_outlet.specs.Sending.{SendsMessages}
 use Rattle.xcp_connection.specs.Connections.{outcome_of}
 use Rattle.xcp_connection.specs.Hearing.{RefusedWhere, StopsAt}
 use Rattle.xcp_connection.specs.Sending.{Delivered}
@@ -20,10 +20,10 @@ module _ {I O : Type 0} (remaining : I → Option (List ℕ)) (contents : O → 
   -- The stream was served with MAX_CTO m, by so many reads at most, for this caller of a tool and this one of a pump: the answers'
   -- packets and those of the pump were put, and of what was put the sender wrote what it took.
   pub record Attended (m turns : ℕ) (reader : Watched I) (writer : Watched O) (tool pump : CallerValue) (d : Closed CallerValue I O) : Type 0 where
-    pub serves : ServesBy m d.heard (place_of remaining reader) (place_of remaining d.left.reader.value) (exchanges_of tool.receipts) (exchanges_of d.tool.receipts) [] d.left.replies.value.put
+    pub serves : ServesBy m d.heard (stream_place remaining reader) (stream_place remaining d.left.reader.value) (exchanges_of tool.receipts) (exchanges_of d.tool.receipts) [] d.left.replies.value.put
     pub pumps : Pumps d.pumped (exchanges_of pump.receipts) (exchanges_of d.pump.receipts) [] d.left.samples.value.put
     pub stops : IfErr d.pumped IsInterruption
-    pub sends : Sends d.sent d.left.took.value.taken (contents writer.inner) (contents d.left.writer.value.inner) writer.failures d.left.writer.value.failures
+    pub sends : SendsMessages d.sent d.left.took.value.taken (contents writer.inner) (contents d.left.writer.value.inner) writer.failures d.left.writer.value.failures
     pub replies : Delivered false d.left.took.value.taken d.left.replies.value.put
     pub samples : Delivered true d.left.took.value.taken d.left.samples.value.put
     pub outcome : d.outcome ≡ outcome_of d.heard d.pumped d.sent
@@ -33,6 +33,6 @@ module _ {I O : Type 0} (remaining : I → Option (List ℕ)) (contents : O → 
     pub reads : d.left.reader.value.calls ≤ reader.calls + turns
     pub spent : d.heard ≡ Err errors.TurnsSpent → d.left.reader.value.calls ≡ reader.calls + turns
     pub refused : RefusedWhere d.heard ((d.left.reader.value ≡ reader) × (exchanges_of d.tool.receipts ≡ exchanges_of tool.receipts) × (d.left.replies.value.put ≡ []))
-        (StopsAt m (place_of remaining reader) (place_of remaining d.left.reader.value) (exchanges_of tool.receipts) (exchanges_of d.tool.receipts))
+        (StopsAt m (stream_place remaining reader) (stream_place remaining d.left.reader.value) (exchanges_of tool.receipts) (exchanges_of d.tool.receipts))
     pub same_tool : Same tool d.tool
     pub same_pump : Same pump d.pump

@@ -33,11 +33,11 @@ use Rattle.xcp_server.specs.declared.report.Ending.{Ending}
 use Rattle.xcp_server.specs.declared.report.Report.{Report}
 
 -- how many of these calls, and of a caller's, were such events
-abbrev pub lost_in : List Receipt → ℕ
-lost_in receipts = count_by (λ (r : Receipt). is_overrun r.answer) receipts
+abbrev pub lost_receipts : List Receipt → ℕ
+lost_receipts receipts = count_by (λ (r : Receipt). is_overrun r.answer) receipts
 
 abbrev pub lost_by : CallerValue → ℕ
-lost_by c = lost_in c.receipts
+lost_by c = lost_receipts c.receipts
 
 -- the fault that is told where a connection ended so
 abbrev pub fault_of_outcome : ServeError → Fault

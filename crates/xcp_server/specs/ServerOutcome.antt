@@ -18,7 +18,7 @@ use Rattle.xcp_locked.specs.Caller.{CallerValue}
 use Rattle.xcp_server.specs.LastHangup.{HungUp}
 use Rattle.xcp_locked.specs.PairedLists.{EachFrom}
 use Rattle.xcp_locked.specs.Excerpts.{cuts_at_stores}
-use Rattle.xcp_locked.specs.TaskOutcome.{WorkedAs, chapters_of, first_fault}
+use Rattle.xcp_locked.specs.TaskOutcome.{WorkedAs, chapters_of, first_task_fault}
 
 -- nothing of what a server left has changed
 pub record SameClosing {N I O : Type 0} (old new : Closing N I O) : Type 0 where
@@ -36,12 +36,12 @@ is_command (requests.Command packet) = true
 is_command _ = false
 
 -- how many of these receipts are of commands
-abbrev pub commands : List Receipt → ℕ
-commands receipts = count_by (λ r. is_command r.request) receipts
+abbrev pub command_count : List Receipt → ℕ
+command_count receipts = count_by (λ r. is_command r.request) receipts
 
 -- Each connection that ended well counted the commands of its caller, which stands at the connection's place.
 abbrev pub CountTheirCommands : List (Result Served ServeError) → List CallerValue → Type 0
-CountTheirCommands outcomes callers = (i : ℕ) (served : Served) (c : CallerValue) → slice_get outcomes i ≡ Some (Ok served) → slice_get callers i ≡ Some c → served.frames ≡ commands c.receipts
+CountTheirCommands outcomes callers = (i : ℕ) (served : Served) (c : CallerValue) → slice_get outcomes i ≡ Some (Ok served) → slice_get callers i ≡ Some c → served.frames ≡ command_count c.receipts
 
 module _ {I O : Type 0} (remaining : I → Option (List ℕ)) (contents : O → Option (List ℕ)) where
   -- the connection at this place was served for the callers of this place among those of tools and those of pumps
@@ -76,7 +76,7 @@ module _ {I O : Type 0} (remaining : I → Option (List ℕ)) (contents : O → 
     -- the tasks
     pub done : List (Done N)
     pub worked : EachFrom (WorkedAs layout may_end cycles chapter) 0 workers done
-    pub hung_up : HungUp (first_fault done) r.fault (map (λ d. d.tool) closed ++ map (λ d. d.worker.caller) done ++ map (λ d. d.pump) closed ++ spare) r.callers.items r.locked.chapter r.locked.journal
+    pub hung_up : HungUp (first_task_fault done) r.fault (map (λ d. d.tool) closed ++ map (λ d. d.worker.caller) done ++ map (λ d. d.pump) closed ++ spare) r.callers.items r.locked.chapter r.locked.journal
     -- the chapters
     pub chapters_are : r.chapters.items ≡ (chapters_of (map (λ d. d.worker) done)).items
     -- the readers

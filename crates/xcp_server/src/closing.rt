@@ -2,11 +2,11 @@
 ghost use Rattle.std.specs.Prelude.{◌≡◌, ◌<◌, ◌≤◌, ◌+◌, ◌++◌, [], IfErr, IfOk, length, map, sum_by, vec_capacity, vec_len};
 ghost use Rattle.std.specs.Vec.Iter.{into_iter_items};
 ghost use Rattle.xcp_locked.specs.Caller.{accepted_by};
-ghost use Rattle.xcp_server.specs.private.GivenBack.{GivesBack, GivesChapters};
+ghost use Rattle.xcp_server.specs.private.GivenBack.{GivesBackAll, GivesChapters};
 ghost use Rattle.xcp_server.specs.private.ServerRoom.{IsEndedRoom, IsRoom};
 ghost use Rattle.xcp_server.specs.LastHangup.{HungUp};
 ghost use Rattle.xcp_server.specs.ServerOutcome.{SameClosing};
-ghost use Rattle.xcp_locked.specs.TaskOutcome.{chapters_of, first_fault};
+ghost use Rattle.xcp_locked.specs.TaskOutcome.{chapters_of, first_task_fault};
 ghost use Rattle.xcp_locked.specs.Chapters.{Disagree, IsWhole, entries_of};
 
 use crate::dealing::{Ended, add_rest, dismiss, take_apart};
@@ -99,11 +99,11 @@ pub(crate) fn close_all<N: Name, I: Read + Drop, O: Write + Drop>(
         (vec_len closed) ended }
     requires workers { (workers.items ≡ []) × (vec_len done ≤ vec_capacity workers) }
     requires readers { (readers.items ≡ []) × (vec_len done + length (into_iter_items unused) ≤ vec_capacity readers) }
-    ensures hung_up { HungUp (first_fault done.items) result.0.fault
+    ensures hung_up { HungUp (first_task_fault done.items) result.0.fault
         (map (λ d. d.tool) closed.items ++ map (λ d. d.worker.caller) done.items
         ++ map (λ d. d.pump) closed.items ++ into_iter_items spare) result.0.callers.items
         result.0.locked.chapter result.0.locked.journal }
-    ensures back { GivesBack N.layout (map (λ d. d.outcome) closed.items) (map (λ d. d.left) closed.items)
+    ensures back { GivesBackAll N.layout (map (λ d. d.outcome) closed.items) (map (λ d. d.left) closed.items)
         (map (λ d. d.worker.reader) done.items ++ into_iter_items unused) result.0 }
     ensures cut { GivesChapters (chapters_of (map (λ d. d.worker) done.items)) result.0.chapters.items result.1 }
 {
@@ -132,7 +132,7 @@ fn put_together<N: Name, I: Read + Drop, O: Write + Drop>(
     ensures hung_up { HungUp ran.fault result.0.fault
         (ended.callers.items ++ map (λ w. w.caller) ran.workers.items
         ++ ended.pumps.items ++ into_iter_items spare) result.0.callers.items result.0.locked.chapter result.0.locked.journal }
-    ensures back { GivesBack N.layout ended.outcomes.items ended.left.items
+    ensures back { GivesBackAll N.layout ended.outcomes.items ended.left.items
         (map (λ w. w.reader) ran.workers.items ++ into_iter_items unused) result.0 }
     ensures cut { GivesChapters (chapters_of ran.workers.items) result.0.chapters.items result.1 }
 {
@@ -142,7 +142,7 @@ fn put_together<N: Name, I: Read + Drop, O: Write + Drop>(
     let mut callers = add_rest(spare, callers);
     let readers = add_rest(unused, readers);
     let fault = hang_up(&mut locked, &mut callers, ran.fault);
-    locked.audit();
+    locked.known();
     let (chapters, handing) = chapters.into_parts();
     let closing = Closing {
         locked,

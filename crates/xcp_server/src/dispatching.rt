@@ -2,7 +2,7 @@
 ghost use Rattle.std.specs.Prelude.{◌≡◌, ◌≤◌, ℕ, [], IfOk, IfSome, map, vec_capacity, vec_len};
 ghost use Rattle.std.specs.List.{AllByRecursion};
 ghost use Rattle.xcp_locked.specs.PairedLists.{EachFrom};
-ghost use Rattle.xcp_server.specs.private.Dispatching.{IsFresh, IsPartedAt, before_at, failures_at, outlet_at};
+ghost use Rattle.xcp_server.specs.private.Dispatching.{IsFreshDispatch, IsPartedAt, before_at, failures_at, outlet_at};
 
 use crate::connection::Parted;
 use std::alloc::{AllocError, Global};
@@ -21,7 +21,7 @@ pub(crate) type Ends = (ReplyEnd, DataEnd, SendEnd);
 /// An outlet for each of so many connections.
 pub(crate) fn open_outlets(alloc: Global, count: usize) -> Result<Vec<Ends>, AllocError>
     ensures count { IfOk result (λ r. vec_len r ≡ count) }
-    ensures fresh { IfOk result (λ r. AllByRecursion IsFresh r.items) }
+    ensures fresh { IfOk result (λ r. AllByRecursion IsFreshDispatch r.items) }
 {
     let mut outlets = Vec::with_capacity(alloc, count)?;
     for _one in 0..count {

@@ -113,7 +113,7 @@ fn write_each<S: Scribe>(rt: &impl Wait, excerpts: Excerpts, scribe: S) -> (Exce
         let Some(excerpt) = excerpts.next(rt) else {
             return (excerpts, scribe);
         };
-        excerpt.audit();
+        excerpt.known();
         scribe.write(excerpt.entries(), excerpt.last());
     }
     unreachable!()
@@ -127,7 +127,7 @@ fn write_rest<N: Name, S: Scribe>(scribe: S, chapters: &[Chapter<N>], from: usiz
     let mut scribe = scribe;
     for k in from..chapters.len() {
         let chapter = &chapters[k];
-        chapter.audit();
+        chapter.known();
         scribe.write(chapter.entries(), chapter.last());
     }
     scribe
@@ -139,7 +139,7 @@ pub(crate) fn write_open<N: Name, S: Scribe>(scribe: S, locked: &Locked<N>) -> S
         → S.wrote result (given ++ given_open locked.now ∷ []) }
 {
     let mut scribe = scribe;
-    locked.audit();
+    locked.known();
     scribe.write(locked.entries(), locked.slave());
     scribe
 }

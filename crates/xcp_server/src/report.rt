@@ -3,7 +3,7 @@ ghost use Rattle.std.specs.Prelude.{◌≡◌, ◌<◌, ◌-◌, ◌^◌, IfOk, 
 ghost use Rattle.std.specs.Option.{option_or};
 ghost use Rattle.xcp_locked.specs.Caller.{accepted_by};
 ghost use Rattle.xcp_server.specs.ServerOutcome.{SameClosing};
-ghost use Rattle.xcp_server.specs.Report.{IsMismatch, IsReport, fault_of_outcome, fault_of_outcomes, fault_of_tasks, lost_by, lost_in};
+ghost use Rattle.xcp_server.specs.Report.{IsMismatch, IsReport, fault_of_outcome, fault_of_outcomes, fault_of_tasks, lost_by, lost_receipts};
 
 use crate::{Closing, settle_all};
 use std::io::{Read, Write};
@@ -83,7 +83,7 @@ fn count_lost<N: Name>(callers: &[Caller<N>]) -> u64
 
 /// The same of one caller's receipts.
 fn lost_of(receipts: &Receipts) -> u64
-    ensures { result ≡ min (lost_in receipts.now.list) (2 ^ 64 - 1) }
+    ensures { result ≡ min (lost_receipts receipts.now.list) (2 ^ 64 - 1) }
 {
     let mut lost: u64 = 0;
     let mut left = receipts.iter();

@@ -10,11 +10,12 @@ ghost use Rattle.xcp_server.specs.ServerOutcome.{Closes, CountTheirCommands};
 ghost use Rattle.xcp_server.specs.ServerEnd.{LeavesAll};
 ghost use Rattle.xcp_server.specs.private.ConnectionParts.{CameOfTools};
 ghost use Rattle.xcp_locked.specs.Excerpts.{HandsNone};
-ghost use Rattle.xcp_server.specs.private.Dispatching.{IsFresh, IsUnput, before_at, failures_at, outlet_at};
+ghost use Rattle.xcp_server.specs.private.Dispatching.{IsFreshDispatch, IsUnput, before_at, failures_at, outlet_at};
 ghost use Rattle.xcp_server.specs.private.Performing.{Performs};
 ghost use Rattle.xcp_server.specs.private.ReadyServer.{IsReady};
 ghost use Rattle.xcp_server.specs.private.ServerRoom.{IsRoom};
 ghost use Rattle.xcp_server.specs.private.WrittenChapters.{relay_of};
+ghost use Rattle.xcp_locked.specs.UnnamedSlave.{IsNamed};
 
 use crate::Closing;
 use crate::closing::{Rooms, close_all, make_rooms};
@@ -68,8 +69,7 @@ pub fn run_server<
     gate: &G,
     scribe: S,
 ) -> Result<(Closing<N, I, O>, S), AllocError>
-    requires name { (unnamed.name ≡ N.name) × (unnamed.callers ≡ N.parts)
-        × (unnamed.layout ≡ N.layout) × (unnamed.bank ≡ N.bank) }
+    requires name { IsNamed unnamed N.name N.parts N.layout N.bank }
     requires some { 0 < vec_len streams }
     requires callers { vec_len streams + tasks + vec_len streams ≤ unnamed.callers }
     requires readers { tasks ≤ 6 }
@@ -126,8 +126,7 @@ fn prepare<N: Name, I: Read + Drop, O: Write + Drop, S: Scribe>(
     each_store: bool,
     scribe: S,
 ) -> Result<Ready<N, I, O, S>, AllocError>
-    requires name { (unnamed.name ≡ N.name) × (unnamed.callers ≡ N.parts)
-        × (unnamed.layout ≡ N.layout) × (unnamed.bank ≡ N.bank) }
+    requires name { IsNamed unnamed N.name N.parts N.layout N.bank }
     requires scribe { S.wrote scribe [] }
     ensures callers { IfOk result (λ r. r.callers.items ≡ callers_of unnamed.layout unnamed.callers) }
     ensures readers { IfOk result (λ r. r.readers.items ≡ six_readers N.bank (image_of (opening unnamed.layout))) }
@@ -251,7 +250,7 @@ fn run_named<
     requires ready { IsReady tasks each_store ready }
     requires once { limits.goes_on ≡ false }
     requires all { vec_len outlets ≡ vec_len ready.streams }
-    requires fresh { AllByRecursion IsFresh outlets.items }
+    requires fresh { AllByRecursion IsFreshDispatch outlets.items }
     requires outlets { (place : ℕ) → L.outlet place ≡ outlet_at outlets.items place }
     requires before { (place : ℕ) → L.before place ≡ before_at O.contents ready.streams.items place }
     requires failures { (place : ℕ) → L.failures place ≡ failures_at ready.streams.items place }

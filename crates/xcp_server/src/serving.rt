@@ -1,6 +1,7 @@
 //! Connections and tasks, up to what is told of them.
 ghost use Rattle.std.specs.Prelude.{◌≡◌, ◌<◌, ◌≤◌, ◌+◌, [], MatchResult, vec_len};
 ghost use Rattle.xcp_server.specs.Report.{IsServed};
+ghost use Rattle.xcp_locked.specs.UnnamedSlave.{IsNamed};
 
 use crate::recording::write_open;
 use crate::report::{Ending, conclude};
@@ -79,8 +80,7 @@ fn serve_named<
     periods: [u64; 6],
     scribe: S,
 ) -> Result<Ending<I, O, S>, Fault>
-    requires name { (unnamed.name ≡ N.name) × (unnamed.callers ≡ N.parts)
-        × (unnamed.layout ≡ N.layout) × (unnamed.bank ≡ N.bank) }
+    requires name { IsNamed unnamed N.name N.parts N.layout N.bank }
     requires some { 0 < vec_len streams }
     requires callers { vec_len streams + tasks + vec_len streams ≤ unnamed.callers }
     requires readers { tasks ≤ 6 }

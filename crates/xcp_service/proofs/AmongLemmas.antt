@@ -19,6 +19,7 @@ other_way n m e = ne_eqb m n (λ same. differ_from n m e (sym same))
 pub same_by : (n m : ℕ) → (n == m) ≡ true → n ≡ m
 same_by n m e = search rules
 
+-- an `or` is false only where both sides are
 pub either_false : (a b : Bool) → (a || b) ≡ false → (a ≡ false) × (b ≡ false)
 either_false true b e = absurd (true≢false e)
 either_false false b e = (refl, e)

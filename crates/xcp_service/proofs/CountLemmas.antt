@@ -30,6 +30,7 @@ zero_all n k = all_zero (zeros_of n) (zero_list n) k
 zeros : (xs : List ℕ) → ((k : ℕ) → get_or xs k 0 ≡ 0) → (k : ℕ) → get_or xs k 0 ≤ 0
 zeros xs h k = let none = h k in omega (arith, none)
 
+-- before the first entry, 256 counts of 0 are right
 pub counting_none : (number : ℕ) (all : List Entry) (counts : List ℕ) → length counts ≡ 256 → ((k : ℕ) → get_or counts k 0 ≡ 0) → IsCounting number all all 0 counts
 counting_none number all counts long none_yet = record {
   sum = λ caller low. let none = none_yet caller in omega (arith, none);
@@ -38,6 +39,7 @@ counting_none number all counts long none_yet = record {
   long = long;
 }
 
+-- with the next entry one more is counted of its caller, whose number is below 256
 pub counting_more : (number : ℕ) (all rest more : List Entry) (at : ℕ) (counts : List ℕ) (e : Entry) → IsCounting number all rest at counts → rest ≡ e ∷ more → e.caller < 256 → IsCounting number all more (at + 1) (set counts e.caller (get_or counts e.caller 0 + 1))
 counting_more number all rest more at counts e h is under_limit = record {
   sum = λ caller within. one caller within (e.caller == caller) refl (sym (ap (λ (l : List Entry). get_or counts caller 0 + length (tally caller number at l)) is) ∙ h.sum caller within);

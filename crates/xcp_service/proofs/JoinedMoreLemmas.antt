@@ -21,6 +21,7 @@ lead_on : (k n : ℕ) (v : SlaveValue) (cs : List ChapterValue) (k2 n2 : ℕ) (v
 lead_on k n v [] k2 n2 v2 c h a b d = (a ∙ h.0, b ∙ h.1, d ∙ h.2, (λ i. h.0 i + 1, λ i. h.1 i + length c.entries, refl))
 lead_on k n v (e ∷ cs) k2 n2 v2 c h a b d = (h.0, h.1, h.2, lead_on (k + 1) (n + length e.entries) e.last cs k2 n2 v2 c h.3 a b d)
 
+-- the calls of one chapter more stand behind those of the others
 pub entries_on : (cs : List ChapterValue) (c : ChapterValue) → entries_of (cs ++ c ∷ []) ≡ entries_of cs ++ c.entries
 entries_on [] c = append-nil c.entries
 entries_on (e ∷ cs) c = ap (λ z. e.entries ++ z) (entries_on cs c) ∙ sym (append_assoc e.entries (entries_of cs) c.entries)
@@ -48,6 +49,7 @@ numbers_from k n v (e ∷ cs) k2 n2 v2 h zero c there =
     some_same x y e = cc
 numbers_from k n v (e ∷ cs) k2 n2 v2 h (suc j) c there = numbers_from (k + 1) (n + length e.entries) e.last cs k2 n2 v2 h.3 j c there ∙ omega arith
 
+-- joined chapters are numbered by their places from 0 on
 pub numbers : (l : LayoutValue) (cs : List ChapterValue) (k n : ℕ) (v : SlaveValue) → AreJoined l cs k n v → (j : ℕ) (c : ChapterValue) → slice_get cs j ≡ Some c → c.number ≡ j
 numbers l cs k n v h j c there = let is = numbers_from 0 0 (opening l) cs k n v h.lead j c there in omega (arith, is)
 
@@ -64,5 +66,6 @@ lead_same : (k n : ℕ) (v : SlaveValue) (cs : List ChapterValue) (k2 n2 k3 n3 :
 lead_same k n v [] k2 n2 k3 n3 v2 v3 h g = (h.0 ∙ sym g.0, h.1 ∙ sym g.1, h.2 ∙ sym g.2)
 lead_same k n v (e ∷ cs) k2 n2 k3 n3 v2 v3 h g = lead_same (k + 1) (n + length e.entries) e.last cs k2 n2 k3 n3 v2 v3 h.3 g.3
 
+-- joined chapters lead on to one number, one count of calls and one slave alone
 pub joined_same : (l : LayoutValue) (cs : List ChapterValue) (k n k2 n2 : ℕ) (v v2 : SlaveValue) → AreJoined l cs k n v → AreJoined l cs k2 n2 v2 → (k ≡ k2) × (n ≡ n2) × (v ≡ v2)
 joined_same l cs k n k2 n2 v v2 h g = lead_same 0 0 (opening l) cs k n k2 n2 v v2 h.lead g.lead

@@ -20,6 +20,7 @@ pub chapters_more : (xs : List (ℕ × ParcelValue)) (x : ℕ × ParcelValue) �
 chapters_more [] x = append-nil x.1.chapters
 chapters_more (y ∷ xs) x = ap (λ (l : List ChapterValue). y.1.chapters ++ l) (chapters_more xs x) ∙ sym (append_assoc y.1.chapters (chapters_taken xs) x.1.chapters)
 
+-- and its sheaves stand behind those that were taken before
 pub sheaves_more : (xs : List (ℕ × ParcelValue)) (x : ℕ × ParcelValue) → sheaves_taken (xs ++ x ∷ []) ≡ sheaves_taken xs ++ x.1.sheaves
 sheaves_more [] x = append-nil x.1.sheaves
 sheaves_more (y ∷ xs) x = ap (λ (l : List SheafValue). y.1.sheaves ++ l) (sheaves_more xs x) ∙ sym (append_assoc y.1.sheaves (sheaves_taken xs) x.1.sheaves)
@@ -105,6 +106,7 @@ pub numbered_at : (k : ℕ) (cs : List CallerValue) (c : CallerValue) (ds : List
 numbered_at k [] c ds h = let is = h.0 in omega (arith, is)
 numbered_at k (b ∷ cs) c ds h = let is = numbered_at (k + 1) cs c ds h.1 in omega (arith, is)
 
+-- the callers of an opening are as many as were asked for
 pub length-callers_of : (l : LayoutValue) (n : ℕ) → length (callers_of l n) ≡ n
 length-callers_of l zero = refl
 length-callers_of l (suc n) = let e = length-callers_of l n in let m = length-append (callers_of l n) (fresh_caller l n ∷ []) in omega (arith, e, m)

@@ -9,16 +9,17 @@ use Rattle.xcp_locked.specs.SettledReceipts.{DifferAt, among, receipts_for, tall
 use Rattle.xcp_locked.specs.Sheaves.{SheafValue}
 use Rattle.xcp_locked.specs.declared.joining.Discord.{Discord}
 use Rattle.xcp_locked.specs.declared.receipt.Receipt.{Receipt}
-use Rattle.xcp_service.specs.Keeping.{IsSettledBy, KeeperValue, caller_limit, is_among, receipts_by}
+use Rattle.xcp_service.specs.Keeping.{IsSettledBy, KeeperValue, caller_limit, is_chapter_among, receipts_by}
 use Rattle.xcp_service.specs.Refusals.{GoesNoFurther, HasItsDue, IsMet, RefusesSheaf}
 use Rattle.xcp_service.specs.declared.keeper.Unkept.{Unkept}
-use Rattle.xcp_service.specs.private.Waiting.{AreKept, FitsAll, IsUnfit, IsWaiting, WaitingValue, chapters_in, has_due, is_due, marked}
+use Rattle.xcp_service.specs.private.Waiting.{AreKept, FitsAll, IsSheafUnfit, IsChapterWaiting, WaitingValue, chapters_in, has_due, is_due, settled_mark}
 use Rattle.xcp_service.proofs.AmongLemmas.{among_append, among_few, differ_from, either_false, same_by, same_number}
 use Rattle.xcp_service.proofs.JoinedMoreLemmas.{joined_same}
 use Rattle.xcp_service.proofs.KeepingLemmas.{all_of_it, by_same, empty_of, kept_sheaf, marked_chapter, marked_chapters, some_same, zero_there}
 
 -- ---- lists
 
+-- what holds of all holds of the one at a place
 pub all_at : {X : Type 0} (P : X → Type 0) (xs : List X) (k : ℕ) (x : X) → AllByRecursion P xs → slice_get xs k ≡ Some x → P x
 all_at P [] k x h there = cc
 all_at P (y ∷ xs) zero x h there = subst P (some_same y x there) h.0
@@ -39,11 +40,11 @@ nothing_behind (x ∷ xs) ys zs both one = nothing_behind xs ys xs (tails x (xs 
     tails r us vs e = cc
 
 -- a chapter of this number that waits
-find_among : (n : ℕ) (ws : List WaitingValue) → is_among n (chapters_in ws) ≡ true → (k : ℕ) × (w : WaitingValue) × (slice_get ws k ≡ Some w) × (w.chapter.number ≡ n)
+find_among : (n : ℕ) (ws : List WaitingValue) → is_chapter_among n (chapters_in ws) ≡ true → (k : ℕ) × (w : WaitingValue) × (slice_get ws k ≡ Some w) × (w.chapter.number ≡ n)
 find_among n [] e = absurd (true≢false (sym e))
 find_among n (w ∷ ws) e = go (n == w.chapter.number) refl (find_among n ws) e
   where
-    go : (b : Bool) → (n == w.chapter.number) ≡ b → (is_among n (chapters_in ws) ≡ true → (k : ℕ) × (v : WaitingValue) × (slice_get ws k ≡ Some v) × (v.chapter.number ≡ n)) → (b || is_among n (chapters_in ws)) ≡ true
+    go : (b : Bool) → (n == w.chapter.number) ≡ b → (is_chapter_among n (chapters_in ws) ≡ true → (k : ℕ) × (v : WaitingValue) × (slice_get ws k ≡ Some v) × (v.chapter.number ≡ n)) → (b || is_chapter_among n (chapters_in ws)) ≡ true
         → (k : ℕ) × (v : WaitingValue) × (slice_get (w ∷ ws) k ≡ Some v) × (v.chapter.number ≡ n)
     go true is rest e = (0, w, refl, sym (same_by n w.chapter.number is))
     go false is rest e = let found = rest e in (suc found.0, found.1, found.2, found.3)
@@ -112,7 +113,7 @@ with_one_more n sheaves s = ap (receipts_for false n) (by_same sheaves s s.calle
 has_due_calls : (k : KeeperValue) (ws : List WaitingValue) (s : SheafValue) (at : ℕ) (w : WaitingValue) → AreKept k.chapters k.sheaves ws → s.caller < caller_limit → HasItsDue k s → slice_get ws at ≡ Some w → is_due s w ≡ true
     → receipts_for false w.chapter.number s.receipts ≡ tally s.caller w.chapter.number 0 w.chapter.entries
 has_due_calls k ws s at w h low due there is_so =
-    let waits = all_at (IsWaiting k.chapters k.sheaves) ws at w h.waiting there in
+    let waits = all_at (IsChapterWaiting k.chapters k.sheaves) ws at w h.waiting there in
     let before = due_before s w is_so in
     let settles = due.settles w.chapter.number w.chapter waits.taken before.0 in
     elim (waits.owed s.caller low) [
@@ -132,7 +133,7 @@ has_no_others k ws s numbered h low due n none = by_until (nat_lt n s.until) ref
 
     waiting : (c : ChapterValue) → c.number ≡ n → slice_get k.chapters n ≡ Some c → n < s.until → (w : WaitingValue) (at : ℕ) → slice_get ws at ≡ Some w → w.chapter.number ≡ n → receipts_for false n s.receipts ≡ []
     waiting c is there before w at found same =
-        let waits = all_at (IsWaiting k.chapters k.sheaves) ws at w h.waiting found in
+        let waits = all_at (IsChapterWaiting k.chapters k.sheaves) ws at w h.waiting found in
         let chapter : w.chapter ≡ c = some_same w.chapter c (sym waits.taken ∙ ap (slice_get k.chapters) same ∙ there) in
         let isnt = one_not_due s ws at w found (ap (has_due s ws) same ∙ none) in
         let zero_left = not_due_before s w isnt (omega (arith, same, before)) in
@@ -142,23 +143,23 @@ has_no_others k ws s numbered h low due n none = by_until (nat_lt n s.until) ref
               (wanted.1 ∙ sym (empty_of (tally s.caller w.chapter.number 0 w.chapter.entries) (sym wanted.0 ∙ zero_left))))
         ]
 
-    taken : (c : ChapterValue) → slice_get k.chapters n ≡ Some c → n < s.until → (b : Bool) → is_among n (chapters_in ws) ≡ b → receipts_for false n s.receipts ≡ []
+    taken : (c : ChapterValue) → slice_get k.chapters n ≡ Some c → n < s.until → (b : Bool) → is_chapter_among n (chapters_in ws) ≡ b → receipts_for false n s.receipts ≡ []
     taken c there before true was = let found = find_among n ws was in waiting c (numbered n c there) there before found.1 found.0 found.2 found.3
     taken c there before false gone = settled c (numbered n c there) there before (h.dropped n c there gone s.caller low)
 
     by_until : (a : Bool) → nat_lt n s.until ≡ a → (b : Bool) → nat_lt n (length k.chapters) ≡ b → receipts_for false n s.receipts ≡ []
-    by_until true before true there = let found = get_there k.chapters n (search rules) in taken found.0 found.1 (search rules) (is_among n (chapters_in ws)) refl
+    by_until true before true there = let found = get_there k.chapters n (search rules) in taken found.0 found.1 (search rules) (is_chapter_among n (chapters_in ws)) refl
     by_until true before false high = due.others n (inr (search rules))
     by_until false late b there = due.others n (inl (search rules))
 
 -- a sheaf that doesn't fit hasn't its due
-pub refuses_of : (k : KeeperValue) (ws : List WaitingValue) (s : SheafValue) (d : Discord) → ((j : ℕ) (c : ChapterValue) → slice_get k.chapters j ≡ Some c → c.number ≡ j) → AreKept k.chapters k.sheaves ws → s.caller < caller_limit → IsUnfit s ws d → RefusesSheaf k s d
+pub refuses_of : (k : KeeperValue) (ws : List WaitingValue) (s : SheafValue) (d : Discord) → ((j : ℕ) (c : ChapterValue) → slice_get k.chapters j ≡ Some c → c.number ≡ j) → AreKept k.chapters k.sheaves ws → s.caller < caller_limit → IsSheafUnfit s ws d → RefusesSheaf k s d
 refuses_of k ws s d numbered h low unfit = elim unfit [
   | inl one ↦ record {
     lacks = λ due. differ_not one.3.at _ _ one.3.differs (has_due_calls k ws s one.0 one.1 h low due one.2 one.3.due);
     chapter = one.1.chapter.number;
     at = one.3.at;
-    wrong = inl (one.1.chapter, (all_at (IsWaiting k.chapters k.sheaves) ws one.0 one.1 h.waiting one.2).taken, one.3.differs);
+    wrong = inl (one.1.chapter, (all_at (IsChapterWaiting k.chapters k.sheaves) ws one.0 one.1 h.waiting one.2).taken, one.3.differs);
     told = one.3.told;
   }
   | inr others ↦ record {
@@ -173,32 +174,32 @@ refuses_of k ws s d numbered h low unfit = elim unfit [
 -- one that fits has
 pub due_of : (k : KeeperValue) (ws : List WaitingValue) (s : SheafValue) → ((j : ℕ) (c : ChapterValue) → slice_get k.chapters j ≡ Some c → c.number ≡ j) → AreKept k.chapters k.sheaves ws → s.caller < caller_limit → FitsAll s ws → HasItsDue k s
 due_of k ws s numbered h low fits = record {
-  settles = λ j c there before. taken j c there before (is_among j (chapters_in ws)) refl;
+  settles = λ j c there before. taken j c there before (is_chapter_among j (chapters_in ws)) refl;
   others = λ n out. fits.others n (not_due_out n out ws h.waiting);
 }
   where
-    kept : AreKept k.chapters (k.sheaves ++ s ∷ []) (map (marked s.caller s.until) ws)
+    kept : AreKept k.chapters (k.sheaves ++ s ∷ []) (map (settled_mark s.caller s.until) ws)
     kept = kept_sheaf k.chapters k.sheaves ws s numbered fits h
 
-    marked_zero : (w : WaitingValue) → w.chapter.number < s.until → get_or (marked s.caller s.until w).owed s.caller 0 ≡ 0
+    marked_zero : (w : WaitingValue) → w.chapter.number < s.until → get_or (settled_mark s.caller s.until w).owed s.caller 0 ≡ 0
     marked_zero w before = go (nat_lt w.chapter.number s.until) (search rules)
       where
         go : (b : Bool) → b ≡ true → get_or (if b then record w { owed = set w.owed s.caller 0 } else w).owed s.caller 0 ≡ 0
         go true is = zero_there w.owed s.caller
         go false isnt = absurd (true≢false (sym isnt))
 
-    get_marked : (us : List WaitingValue) (at : ℕ) (w : WaitingValue) → slice_get us at ≡ Some w → slice_get (map (marked s.caller s.until) us) at ≡ Some (marked s.caller s.until w)
+    get_marked : (us : List WaitingValue) (at : ℕ) (w : WaitingValue) → slice_get us at ≡ Some w → slice_get (map (settled_mark s.caller s.until) us) at ≡ Some (settled_mark s.caller s.until w)
     get_marked [] at w there = cc
-    get_marked (u ∷ us) zero w there = ap (λ (x : WaitingValue). Some (marked s.caller s.until x)) (some_same u w there)
+    get_marked (u ∷ us) zero w there = ap (λ (x : WaitingValue). Some (settled_mark s.caller s.until x)) (some_same u w there)
     get_marked (u ∷ us) (suc at) w there = get_marked us at w there
 
-    taken : (j : ℕ) (c : ChapterValue) → slice_get k.chapters j ≡ Some c → j < s.until → (b : Bool) → is_among j (chapters_in ws) ≡ b → IsSettledBy (k.sheaves ++ s ∷ []) c s.caller
-    taken j c there before false gone = kept.dropped j c there (ap (is_among j) (marked_chapters s.caller s.until ws) ∙ gone) s.caller low
+    taken : (j : ℕ) (c : ChapterValue) → slice_get k.chapters j ≡ Some c → j < s.until → (b : Bool) → is_chapter_among j (chapters_in ws) ≡ b → IsSettledBy (k.sheaves ++ s ∷ []) c s.caller
+    taken j c there before false gone = kept.dropped j c there (ap (is_chapter_among j) (marked_chapters s.caller s.until ws) ∙ gone) s.caller low
     taken j c there before true was =
         let found = find_among j ws was in
         let w = found.1 in
-        let v = marked s.caller s.until w in
-        let waits = all_at (IsWaiting k.chapters (k.sheaves ++ s ∷ [])) (map (marked s.caller s.until) ws) found.0 v kept.waiting (get_marked ws found.0 w found.2) in
+        let v = settled_mark s.caller s.until w in
+        let waits = all_at (IsChapterWaiting k.chapters (k.sheaves ++ s ∷ [])) (map (settled_mark s.caller s.until) ws) found.0 v kept.waiting (get_marked ws found.0 w found.2) in
         let same : v.chapter.number ≡ j = ap (λ (x : ChapterValue). x.number) (marked_chapter s.caller s.until w) ∙ found.3 in
         let chapter : v.chapter ≡ c = some_same v.chapter c (sym (waits.taken) ∙ ap (slice_get k.chapters) same ∙ there) in
         let none_left = marked_zero w (let is = found.3 in omega (arith, is, before)) in
@@ -207,7 +208,7 @@ due_of k ws s numbered h low fits = record {
           | inr wanted ↦ wanted.1 ∙ sym (empty_of (tally s.caller v.chapter.number 0 v.chapter.entries) (sym wanted.0 ∙ none_left))
         ])
 
-    none_out : (n : ℕ) (w : WaitingValue) → (s.until ≤ n) ⊎ (length k.chapters ≤ n) → IsWaiting k.chapters k.sheaves w → (is_due s w && (n == w.chapter.number)) ≡ false
+    none_out : (n : ℕ) (w : WaitingValue) → (s.until ≤ n) ⊎ (length k.chapters ≤ n) → IsChapterWaiting k.chapters k.sheaves w → (is_due s w && (n == w.chapter.number)) ≡ false
     none_out n w out waits = go (n == w.chapter.number) refl
       where
         late : n ≡ w.chapter.number → (b : Bool) → is_due s w ≡ b → b ≡ false
@@ -230,7 +231,7 @@ due_of k ws s numbered h low fits = record {
             and_false true = refl
             and_false false = refl
 
-    not_due_out : (n : ℕ) → (s.until ≤ n) ⊎ (length k.chapters ≤ n) → (us : List WaitingValue) → AllByRecursion (IsWaiting k.chapters k.sheaves) us → has_due s us n ≡ false
+    not_due_out : (n : ℕ) → (s.until ≤ n) ⊎ (length k.chapters ≤ n) → (us : List WaitingValue) → AllByRecursion (IsChapterWaiting k.chapters k.sheaves) us → has_due s us n ≡ false
     not_due_out n out [] hs = refl
     not_due_out n out (u ∷ us) hs = ap₂ (λ (a b : Bool). a || b) (none_out n u out hs.0) (not_due_out n out us hs.1)
 

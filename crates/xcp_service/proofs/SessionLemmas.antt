@@ -72,18 +72,21 @@ fits (suc n) xs below h =
     let less = less_without n xs (subst (λ m. AllByRecursion (λ s. s < m) xs) (omega arith) below) in
     omega (arith, length_without n xs h, fits n (without n xs) less (single_filter (λ s. not (s == n)) xs h))
 
+-- without one of them they are still seats, none of them twice
 pub seats_without : (seat : ℕ) (xs : List ℕ) → AreSeats xs → AreSeats (without seat xs)
 seats_without seat xs h = record { numbers = all_filter (λ s. s < 256) (λ s. not (s == seat)) xs h.numbers; single = single_filter (λ s. not (s == seat)) xs h.single }
 
 lacks_here : (seat : ℕ) (xs ys : List ℕ) → ys ≡ without seat xs → Lacks seat ys
 lacks_here seat xs ys is = subst (Lacks seat) (sym is) (lacks_without seat xs)
 
+-- and they are with that one before them, if its number is below 256
 pub seats_more : (seat : ℕ) (xs ys : List ℕ) → ys ≡ without seat xs → seat < 256 → AreSeats ys → AreSeats (seat ∷ ys)
 seats_more seat xs ys is lt h = record { numbers = (lt, h.numbers); single = (lacks_here seat xs ys is, h.single) }
 
 room_below : (n seat : ℕ) (xs : List ℕ) → seat < n → AllByRecursion (λ s. s < n) xs → Lacks seat xs → AreSingle xs → length xs < n
 room_below n seat xs lt below lacks single = omega (arith, fits n (seat ∷ xs) (lt, below) (lacks, single))
 
+-- without a seat whose number is below 256, there are fewer than 256 seats
 pub room : (seat : ℕ) (xs ys : List ℕ) → ys ≡ without seat xs → seat < 256 → AreSeats ys → length ys < 256
 room seat xs ys is lt h = room_below 256 seat ys lt h.numbers (lacks_here seat xs ys is) h.single
 
@@ -148,6 +151,7 @@ unfolding first_of
 first_told seat [] = refl
 first_told seat (x ∷ xs) = refl
 
+-- the session is a seat's just where that seat connected last
 pub of_who_connected_last : (seat : ℕ) (happened : List Happening) → has_session seat (seats_after happened) ≡ is_seat seat (connected_last [] happened)
 of_who_connected_last seat happened =
     first_told seat (seats_after happened) ∙ ap (is_seat seat) (ap first_of (sym (all_kept (seats_after happened))) ∙ first_kept [] happened)

@@ -51,7 +51,7 @@ ExecutesNothing old new = (new ≡ old) ⊎ (new ≡ with_a_cut old)
 
 -- What was published for the readers behind this caller's call: when it stood last in its chapter, these were the images, and the last of
 -- them is the image behind the call. A chapter that was cut off behind it published nothing.
-pub record IsPublished (layout : LayoutValue) (caller : ℕ) (call : Receipt) (new : ResidentValue) : Type 0 where
+pub record IsPublishedBehind (layout : LayoutValue) (caller : ℕ) (call : Receipt) (new : ResidentValue) : Type 0 where
   -- where the call's chapter begins, and the calls of the chapter before it
   pub before : ℕ
   pub base : SlaveValue

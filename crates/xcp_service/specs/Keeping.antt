@@ -33,12 +33,12 @@ abbrev pub IsSettledBy : List SheafValue → ChapterValue → ℕ → Type 0
 IsSettledBy sheaves c caller = receipts_for false c.number (receipts_by caller sheaves) ≡ tally caller c.number 0 c.entries
 
 -- a chapter of this number is among these
-abbrev pub is_among : ℕ → List ChapterValue → Bool
-is_among number chapters = list_any (λ (c : ChapterValue). number == c.number) chapters
+abbrev pub is_chapter_among : ℕ → List ChapterValue → Bool
+is_chapter_among number chapters = list_any (λ (c : ChapterValue). number == c.number) chapters
 
 -- Each chapter that is not there any more is settled by all callers: each has handed over the receipts of its calls there, and no others.
 abbrev pub AreDroppedSettled : KeeperValue → Type 0
-AreDroppedSettled k = (j : ℕ) (c : ChapterValue) → slice_get k.chapters j ≡ Some c → is_among j k.waiting ≡ false → (caller : ℕ) → caller < caller_limit → IsSettledBy k.sheaves c caller
+AreDroppedSettled k = (j : ℕ) (c : ChapterValue) → slice_get k.chapters j ≡ Some c → is_chapter_among j k.waiting ≡ false → (caller : ℕ) → caller < caller_limit → IsSettledBy k.sheaves c caller
 
 -- each chapter is settled by all callers
 abbrev pub AreKeptSettled : KeeperValue → Type 0

@@ -56,8 +56,8 @@ pub record RefusalValue : Type 0 where
   pub came : ParcelValue
   pub why : Unkept
 
-abbrev pub IsRefusal : ℕ → RefusalValue → Type 0
-IsRefusal desk r = GoesNoFurther (RefusesParcel desk r.number r.keeper r.came) r.why
+abbrev pub IsKeeperRefusal : ℕ → RefusalValue → Type 0
+IsKeeperRefusal desk r = GoesNoFurther (RefusesParcel desk r.number r.keeper r.came) r.why
 
 -- A keeper meets a slave: no chapter waits, and those that it took lead on from the opening to the slave's open one.
 abbrev pub IsMet : LayoutValue → KeeperValue → LockedValue → Type 0

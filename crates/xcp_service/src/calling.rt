@@ -4,7 +4,7 @@ ghost use Rattle.xcp_slave.specs.AnswerInBytes.{answer_in};
 ghost use Rattle.xcp_slave.specs.AskedRequest.{IsShort, request_asked};
 ghost use Rattle.xcp_locked.specs.Caller.{accepting};
 ghost use Rattle.xcp_locked.specs.Journal.{journal_limit};
-ghost use Rattle.xcp_service.specs.Calls.{Calls, CallsFor, ExecutesNothing, IsBegun, IsPublished, receipt_at};
+ghost use Rattle.xcp_service.specs.Calls.{Calls, CallsFor, ExecutesNothing, IsBegun, IsPublishedBehind, receipt_at};
 ghost use Rattle.xcp_service.specs.Storing.{MayFinish};
 
 use crate::member::Member;
@@ -40,7 +40,7 @@ pub fn call<N: Name, M: Route>(
     ensures calls { IfOk result (λ told. Calls member.old.number (request_asked asked.entry) (answer_in told packet.new) resident.old resident.new) }
     ensures member { IfOk result (λ told. (begun : _) × IsBegun resident.old begun
         × (member.new ≡ accepting member.old (receipt_at begun (request_asked asked.entry) (answer_in told packet.new)))
-        × IsPublished N.layout member.old.number (receipt_at begun (request_asked asked.entry) (answer_in told packet.new)) resident.new) }
+        × IsPublishedBehind N.layout member.old.number (receipt_at begun (request_asked asked.entry) (answer_in told packet.new)) resident.new) }
     ensures full { result ≡ Err LockedError.JournalFull → journal_limit ≤ length resident.old.locked.journal }
     ensures err { OnErr result ((member.new ≡ member.old) × ExecutesNothing resident.old resident.new) }
 {
@@ -49,7 +49,7 @@ pub fn call<N: Name, M: Route>(
     }
     member.hand_over(rt, alloc, resident, post);
     let told = member.submit(resident, asked, packet)?;
-    resident.audit();
+    resident.known();
     let wants_end = resident.wants_end();
     let is_behind = wants_end && post.is_behind(rt);
     if ends_chapter(resident.as_locked().len(), wants_end, is_behind) {
@@ -74,7 +74,7 @@ pub fn call_for<N: Name, M: Route>(
     ensures calls { IfOk result (λ told. CallsFor seat member.old.number (request_asked asked.entry) (answer_in told packet.new) resident.old resident.new) }
     ensures member { IfOk result (λ told. (begun : _) × IsBegun resident.old begun
         × (member.new ≡ accepting member.old (receipt_at begun (request_asked asked.entry) (answer_in told packet.new)))
-        × IsPublished N.layout member.old.number (receipt_at begun (request_asked asked.entry) (answer_in told packet.new)) resident.new) }
+        × IsPublishedBehind N.layout member.old.number (receipt_at begun (request_asked asked.entry) (answer_in told packet.new)) resident.new) }
     ensures full { result ≡ Err LockedError.JournalFull → journal_limit ≤ length resident.old.locked.journal }
     ensures err { OnErr result ((member.new ≡ member.old) × ExecutesNothing resident.old resident.new) }
 {
@@ -109,7 +109,7 @@ pub fn finish_store<N: Name, M: Route>(
         (λ told. Calls member.old.number Request.FinishStore (answer_in told packet.new) resident.old resident.new)) }
     ensures member { IfOk result (λ done. IfSome done (λ told. (begun : _) × IsBegun resident.old begun
         × (member.new ≡ accepting member.old (receipt_at begun Request.FinishStore (answer_in told packet.new)))
-        × IsPublished N.layout member.old.number (receipt_at begun Request.FinishStore (answer_in told packet.new)) resident.new)) }
+        × IsPublishedBehind N.layout member.old.number (receipt_at begun Request.FinishStore (answer_in told packet.new)) resident.new)) }
     ensures err { OnErr result ((member.new ≡ member.old) × ExecutesNothing resident.old resident.new) }
 {
     let shelved = post.shelved(rt);
@@ -133,7 +133,7 @@ fn finish_by<N: Name, M: Route>(
         (λ told. Calls member.old.number Request.FinishStore (answer_in told packet.new) resident.old resident.new)) }
     ensures member { IfOk result (λ done. IfSome done (λ told. (begun : _) × IsBegun resident.old begun
         × (member.new ≡ accepting member.old (receipt_at begun Request.FinishStore (answer_in told packet.new)))
-        × IsPublished N.layout member.old.number (receipt_at begun Request.FinishStore (answer_in told packet.new)) resident.new)) }
+        × IsPublishedBehind N.layout member.old.number (receipt_at begun Request.FinishStore (answer_in told packet.new)) resident.new)) }
     ensures err { OnErr result ((member.new ≡ member.old) × ExecutesNothing resident.old resident.new) }
 {
     if !resident.may_finish(shelved.chapters()) {

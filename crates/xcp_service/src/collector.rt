@@ -166,7 +166,7 @@ fn write_down<N: Name, S: Scribe>(scribe: &mut S, parcel: &Parcel<N>)
         → S.wrote scribe.new (given ++ given_in parcel.now.chapters) }
 {
     if let Some(chapter) = &parcel.chapter {
-        chapter.audit();
+        chapter.known();
         scribe.write(chapter.entries(), chapter.last());
     }
 }

@@ -110,7 +110,7 @@ impl<N: Name> Keeper<N> {
         let Ok(last) = chapter.share_last() else {
             return Err(Unkept::Memory);
         };
-        chapter.audit();
+        chapter.known();
         let owed = count_calls(&chapter);
         let more = count_lost(&chapter);
         let Keeper {
@@ -138,7 +138,7 @@ impl<N: Name> Keeper<N> {
             (Follows self.now.number self.now.before self.now.last chapter.now.number chapter.now.before chapter.now.base)
             (¬ (Follows self.now.number self.now.before self.now.last chapter.now.number chapter.now.before chapter.now.base)) }
     {
-        chapter.audit();
+        chapter.known();
         if chapter.number() != self.number || chapter.before() != self.before {
             return false;
         }
@@ -237,7 +237,7 @@ impl<N: Name> Keeper<N> {
 
     /// Does nothing: its contract says what the type keeps. The chapters that were taken are one run from the opening, and each that is
     /// not there any more is settled by all callers.
-    pub fn audit(&self)
+    pub fn known(&self)
         ensures joined { AreJoined N.layout self.now.chapters self.now.number self.now.before self.now.last }
         ensures settled { AreDroppedSettled self.now }
     {
@@ -255,7 +255,7 @@ impl<N: Name> Keeper<N> {
         ensures once { result ≡ true → AreOnce self.now }
         ensures unmet { result ≡ false → ¬ (IsMet N.layout self.now locked.now) }
     {
-        locked.audit();
+        locked.known();
         if !self.waiting.is_empty()
             || locked.chapter() != self.number
             || locked.before() != self.before

@@ -66,7 +66,7 @@ impl<N: Name, M: Route> Member<N, M> {
     }
 
     /// The caller itself, with what it has at hand.
-    pub fn caller(&self) -> &Caller<N>
+    pub fn own_caller(&self) -> &Caller<N>
         ensures number { result.now.number ≡ self.now.number }
         ensures events { result.now.events ≡ self.now.events }
         ensures signals { result.now.signals ≡ self.now.signals }

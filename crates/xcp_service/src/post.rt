@@ -1,6 +1,6 @@
 //! What a slave that stays and its callers give to the keeper.
 ghost use Rattle.std.specs.Prelude.{◌≡◌, ◌++◌, [], ◌∷◌, MatchOption, true};
-ghost use Rattle.relay.specs.Ends.{Meets};
+ghost use Rattle.relay.specs.Ends.{IsAllTaken};
 ghost use Rattle.xcp_service.specs.Parcels.{parcel_of_chapter, parcel_of_sheaf};
 
 use crate::lag::Lag;
@@ -112,7 +112,7 @@ impl<N: Name, M: Route> Post<N, M> {
     /// Whether nothing lay there at one moment of the call. Then all that this giver handed in was taken, in order.
     pub(crate) fn meets(&self, giver: &mut Giver<Parcel<N>>, taker: &mut Taker<Parcel<N>>) -> bool
         requires relay { (giver.old.relay ≡ M.relay) × (taker.old.relay ≡ M.relay) }
-        ensures meets { result ≡ true → Meets giver.new taker.new }
+        ensures meets { result ≡ true → IsAllTaken giver.new taker.new }
         ensures same { (giver.new ≡ giver.old) × (taker.new ≡ taker.old) }
     {
         self.relay.meets(giver, taker)

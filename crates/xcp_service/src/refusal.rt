@@ -1,6 +1,6 @@
 //! What a keeper refused.
 ghost use Rattle.std.specs.Prelude.{◌≡◌};
-ghost use Rattle.xcp_service.specs.Refusals.{IsRefusal};
+ghost use Rattle.xcp_service.specs.Refusals.{IsKeeperRefusal};
 
 use crate::keeper::{Keeper, Unkept};
 use crate::parcel::Parcel;
@@ -18,13 +18,13 @@ pub struct Refusal<N: Name> {
 }
 
 impl<N: Name> Model for Refusal<N> {
-    ghost use Rattle.xcp_service.specs.Refusals.{IsRefusal, RefusalValue};
+    ghost use Rattle.xcp_service.specs.Refusals.{IsKeeperRefusal, RefusalValue};
 
     ghost Value = { RefusalValue };
 
     ghost view = { λ r. record { keeper = r.keeper.value; number = r.number; came = r.came.value; why = r.why } };
 
-    ghost invariant = { λ r. IsRefusal N.parts (record { keeper = r.keeper.value; number = r.number; came = r.came.value; why = r.why }) };
+    ghost invariant = { λ r. IsKeeperRefusal N.parts (record { keeper = r.keeper.value; number = r.number; came = r.came.value; why = r.why }) };
 }
 
 impl<N: Name> Refusal<N> {
@@ -35,7 +35,7 @@ impl<N: Name> Refusal<N> {
         keeper: Snapshot<Keeper<N>>,
         came: Snapshot<Parcel<N>>,
     ) -> Refusal<N>
-        requires { IsRefusal N.parts (record { keeper = keeper.value; number = number; came = came.value; why = why }) }
+        requires { IsKeeperRefusal N.parts (record { keeper = keeper.value; number = number; came = came.value; why = why }) }
         ensures { result ≡ record { keeper = keeper.value; number = number; came = came.value; why = why } }
     {
         Refusal {
@@ -49,7 +49,7 @@ impl<N: Name> Refusal<N> {
     /// Why: there was no memory, or what came isn't as it must be.
     pub fn why(&self) -> Unkept
         ensures why { result ≡ self.now.why }
-        ensures refuses { IsRefusal N.parts self.now }
+        ensures refuses { IsKeeperRefusal N.parts self.now }
     {
         self.why
     }

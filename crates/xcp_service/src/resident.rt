@@ -83,7 +83,7 @@ impl<N: Name, M: Route> Resident<N, M> {
         requires chapters { chapters ≡ record { relay = M.relay; tag = N.parts; given = [] } }
         ensures { result ≡ record { locked = locked; past = []; sessions = []; stores = unasked keeps_pages } }
     {
-        locked.audit();
+        locked.known();
         Resident {
             locked,
             tray: Tray::new(chapters),
@@ -170,7 +170,7 @@ impl<N: Name, M: Route> Resident<N, M> {
         if !post.clear(rt, &mut self.tray) {
             return false;
         }
-        self.locked.audit();
+        self.locked.known();
         let Ok(chapter) = self.locked.cut(alloc) else {
             return false;
         };
@@ -227,7 +227,7 @@ impl<N: Name, M: Route> Resident<N, M> {
         ensures stores { IfOk result (λ told. self.new.stores
             ≡ asked_in self.old.locked.chapter (request_asked asked.entry) (answer_in told packet.new) self.old.stores) }
     {
-        self.locked.audit();
+        self.locked.known();
         let before = self.locked.pending();
         let chapter = self.locked.chapter();
         let submitted = self.locked.submit_into(caller, asked, packet);
@@ -256,7 +256,7 @@ impl<N: Name, M: Route> Resident<N, M> {
 
     /// Does nothing: its contract says what the type keeps. The chapters that were cut off are one run from the opening to the open one,
     /// and what is published are the images along this run and the open chapter's.
-    pub fn audit(&self)
+    pub fn known(&self)
         ensures goes_on { GoesOn N.layout self.now }
         ensures published { HasPublished N.layout self.now }
         ensures reached { IsReached N.layout self.now.locked.before self.now.locked.base }
@@ -265,7 +265,7 @@ impl<N: Name, M: Route> Resident<N, M> {
         ensures all_images { AreAllImages N.layout self.now.locked.before self.now.locked.base
             (exchanges self.now.locked.journal) self.now.locked.writer.publications }
     {
-        self.locked.audit();
+        self.locked.known();
     }
 
     /// The slave, which is called no more, once the keeper took all chapters that were ever cut off it. `None` where one of them is still

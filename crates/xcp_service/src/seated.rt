@@ -46,7 +46,7 @@ impl<N: Name, M: Route> Shared<N, M> {
         };
         let mut timekeeper = timekeeper.lock(rt);
         if let Some(time) = timekeeper.time(clock) {
-            timekeeper.tell(rt, alloc, resident, &self.post, time);
+            timekeeper.tell_time(rt, alloc, resident, &self.post, time);
         }
     }
 }

@@ -61,7 +61,7 @@ impl<N: Name, M: Route> Timekeeper<N, M> {
     }
 
     /// Does nothing: its contract says what the type keeps. It is the last caller, and all receipts that it ever had are of times.
-    pub fn audit(&self)
+    pub fn known(&self)
         ensures last { self.now.number + 1 ≡ N.parts }
         ensures times { AllByRecursion IsTime self.now.receipts }
     {
@@ -83,7 +83,7 @@ impl<N: Name, M: Route> Timekeeper<N, M> {
     }
 
     /// Tells the slave this time, under the lock that it is lent from. Where there is no memory for it, it isn't told.
-    pub(crate) fn tell(
+    pub(crate) fn tell_time(
         &mut self,
         rt: &impl Wait,
         alloc: Global,

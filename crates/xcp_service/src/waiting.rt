@@ -2,7 +2,7 @@
 ghost use Rattle.std.specs.Prelude.{◌≡◌, ◌==◌, IfErr, OnOk, map, not};
 ghost use Rattle.std.specs.List.{AllByRecursion, filter, list_all};
 ghost use Rattle.xcp_locked.specs.declared.joining.Discord.TheVariants as discords;
-ghost use Rattle.xcp_service.specs.private.Waiting.{AreApart, FitsAll, IsCounted, IsCountedFor, IsUnfit, is_due, marked, owes_nothing};
+ghost use Rattle.xcp_service.specs.private.Waiting.{AreApart, FitsAll, IsCounted, IsCountedFor, IsSheafUnfit, is_due, settled_mark, owes_nothing};
 
 use std::marker::Model;
 use xcp_locked::{Chapter, Discord, Name, Sheaf, Unsettled};
@@ -35,7 +35,7 @@ impl<N: Name> Waiting<N> {
 
     /// Where the chapter is one before this number, nothing is wanted of this caller any more.
     fn mark(&mut self, caller: u8, until: u64)
-        ensures { self.new ≡ marked caller until self.old }
+        ensures { self.new ≡ settled_mark caller until self.old }
     {
         if self.chapter.number() < until {
             self.owed[caller as usize] = 0;
@@ -61,7 +61,7 @@ fn is_zero(owed: &[u32]) -> bool
 pub(crate) fn count_calls<N: Name>(chapter: &Chapter<N>) -> [u32; CALLERS]
     ensures { IsCounted chapter.now result }
 {
-    chapter.audit();
+    chapter.known();
     let mut counts = [0u32; CALLERS];
     let mut entries = chapter.entries();
     for _at in 0..chapter.len() {
@@ -80,7 +80,7 @@ pub(crate) fn check_sheaf<N: Name>(waiting: &[Waiting<N>], sheaf: &Sheaf<N>) -> 
     requires apart { AreApart waiting.now }
     requires counted { AllByRecursion (IsCountedFor sheaf.now.caller) waiting.now }
     ensures fits { OnOk result (FitsAll sheaf.now waiting.now) }
-    ensures unfit { IfErr result (λ d. IsUnfit sheaf.now waiting.now d) }
+    ensures unfit { IfErr result (λ d. IsSheafUnfit sheaf.now waiting.now d) }
 {
     let caller = sheaf.caller() as usize;
     let all = sheaf.len();
@@ -110,7 +110,7 @@ pub(crate) fn discord(chapter: u64, caller: usize, at: usize) -> Discord
 
 /// Nothing is wanted of this caller any more, by the chapters before this number.
 pub(crate) fn mark_all<N: Name>(waiting: &mut [Waiting<N>], caller: u8, until: u64)
-    ensures { waiting.new ≡ map (marked caller until) waiting.old }
+    ensures { waiting.new ≡ map (settled_mark caller until) waiting.old }
 {
     for one in waiting.iter_mut() {
         one.mark(caller, until);

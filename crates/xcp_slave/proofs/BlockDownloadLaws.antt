@@ -20,7 +20,7 @@ use Rattle.xcp_slave.specs.SlaveValue.{SlaveValue, layout_of}
 use Rattle.xcp_slave.specs.Step.{Answers, Heeds, stored, with_event, with_signals, at_time, with_part}
 use Rattle.xcp_slave.specs.SlaveInvariant.{IsSlave}
 use Rattle.xcp_slave.specs.AcceptedCommands.{Accepts}
-use Rattle.xcp_slave.specs.BlockDownload.{IsBetween, Brings, Gathers, Comes}
+use Rattle.xcp_slave.specs.BlockDownload.{IsBetween, Brings, GathersBlock, Comes}
 use Rattle.xcp_slave.proofs.MemoryLaws.{block-both}
 use Rattle.xcp_slave.proofs.BlockLaws.{block-begins, block-goes-on, begin-room, next-room}
 use Rattle.xcp_slave.proofs.UnaffectedPartLaws.{drains-part, fires-part, stores-part}
@@ -81,7 +81,7 @@ brings-holds n a came part v q x w h r k0 =
       long = omega (arith, length-append came part, long, h.long, sizes.0, sizes.1);
     }
 
-gathers-holds : (n a : ℕ) (came : List ℕ) (v : SlaveValue) (xs : List Exchange) (rest : List ℕ) (u : SlaveValue) → Holds n a came v → Gathers v xs rest u → Holds n a (came ++ rest) u
+gathers-holds : (n a : ℕ) (came : List ℕ) (v : SlaveValue) (xs : List Exchange) (rest : List ℕ) (u : SlaveValue) → Holds n a came v → GathersBlock v xs rest u → Holds n a (came ++ rest) u
 gathers-holds n a came v [] rest u h k =
     let all : came ≡ came ++ rest = sym (append-nil came) ∙ ap (λ (b : List ℕ). came ++ b) (sym k.0) in
     subst (λ (b : List ℕ). Holds n a b u) all (subst (λ (y : SlaveValue). Holds n a came y) (sym k.1) h)
@@ -120,7 +120,7 @@ block-gathered v u n a xs came k = let h = comes-holds v u n a xs came k in (h.b
 segments-between : (v : SlaveValue) (q : Request) (a : Answer) (w : SlaveValue) → q ≢ requests.FinishStore → IsBetween q → Answers v q a w → w.transfer.pages.segments ≡ v.transfer.pages.segments
 segments-between v q a w n b k = between-part (λ y. y.transfer.pages.segments) v q a w (λ o. refl) (λ c s o lost. refl) (λ i s. refl) (λ e. absurd (n e)) (λ time. refl) b k
 
-segments-gathered : (n a : ℕ) (came : List ℕ) (v : SlaveValue) (xs : List Exchange) (rest : List ℕ) (u : SlaveValue) → All (λ (x : Exchange). x.request ≢ requests.FinishStore) xs → Holds n a came v → Gathers v xs rest u → u.transfer.pages.segments ≡ v.transfer.pages.segments
+segments-gathered : (n a : ℕ) (came : List ℕ) (v : SlaveValue) (xs : List Exchange) (rest : List ℕ) (u : SlaveValue) → All (λ (x : Exchange). x.request ≢ requests.FinishStore) xs → Holds n a came v → GathersBlock v xs rest u → u.transfer.pages.segments ≡ v.transfer.pages.segments
 segments-gathered n a came v [] rest u s h k = ap (λ (y : SlaveValue). y.transfer.pages.segments) k.1
 segments-gathered n a came v (x ∷ xs) rest u s h k =
     elim k.2 [

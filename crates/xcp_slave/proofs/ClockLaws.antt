@@ -48,12 +48,14 @@ is-later now time =
       | false ↦ λ e. (grind (arith, nat_tests, e), omega arith, inr refl)
     ] refl
 
+-- where a time is told, the slave's is that one or the one that it had, and no earlier than either
 pub time-told : (v : SlaveValue) (time : ℕ) (a : Answer) (w : SlaveValue) → Answers v (requests.Time time) a w → (time ≤ w.time) × (v.time ≤ w.time) × ((w.time ≡ time) ⊎ (w.time ≡ v.time))
 time-told v time a w k = subst (λ (n : ℕ). (time ≤ n) × (v.time ≤ n) × ((n ≡ time) ⊎ (n ≡ v.time))) (sym (ap (λ (x : SlaveValue). x.time) k.1)) (is-later v.time time)
 
 timed : SlaveValue → ℕ → SlaveValue
 timed v n = record v { time = n }
 
+-- it changes nothing but the time, and has no answer
 pub time-alone : (v : SlaveValue) (time : ℕ) (a : Answer) (w : SlaveValue) → Answers v (requests.Time time) a w → (a ≡ answers.Silent) × (w ≡ record v { time = w.time })
 unfolding timed
 time-alone v time a w k = (k.0, k.1 ∙ ap (timed v) (sym (ap (λ (x : SlaveValue). x.time) k.1)))
@@ -62,6 +64,7 @@ row-time : (c : Command) (v : SlaveValue) → (row c (found_by c v)).after.time 
 row-time (commands.DownloadNext remaining bytes) v = refl
 row-time _ v = refl
 
+-- no other request changes the time
 pub time-others : (v : SlaveValue) (q : Request) (a : Answer) (w : SlaveValue) → IsTimeless q → Answers v q a w → w.time ≡ v.time
 time-others v (requests.Command p) a w h k = packet-part (λ x. x.time) (λ n. Unit {0}) v p.items a w refl (λ c n. row-time c v) tt k
 time-others v (requests.Event channel signals) a w h k = fires-part (λ x. x.time) channel signals.items v a w (λ o lost. refl) k
@@ -80,6 +83,7 @@ time-step v requests.FinishStore a w k = let e = time-others v requests.FinishSt
 time-step v requests.Hangup a w k = let e = time-others v requests.Hangup a w tt k in omega (arith, e)
 time-step v (requests.Signals place bytes) a w k = let e = time-others v (requests.Signals place bytes) a w tt k in omega (arith, e)
 
+-- no run sets the time back
 pub time-run : (v : SlaveValue) (xs : List Exchange) (w : SlaveValue) → Run v xs w → v.time ≤ w.time
 time-run v [] w r = let e = ap (λ (x : SlaveValue). x.time) r in omega (arith, e)
 time-run v (x ∷ xs) w r =
@@ -89,9 +93,11 @@ time-run v (x ∷ xs) w r =
 
 -- a list without time stamps
 
+-- its time stamp has no bytes
 pub no-stamp : (pages : PagesValue) (time : ℕ) (l : DaqList) → l.stamp ≡ Without → stamp_of pages time l ≡ []
 no-stamp pages time l e = ap (λ (s : Stamp). stamp_bytes pages.layout.order s time) e
 
+-- where the time stamp has no bytes, the packets of a list are just those of its ODTs
 pub same-list : (pages : PagesValue) (pid : ℕ) (odts : List (List (Option Element))) (packets : List (ArrayVec ℕ)) → ListPackets pages pid [] odts packets ↔ OdtPackets pages pid odts packets
 same-list pages pid [] packets = (λ h. h, λ h. h)
 same-list pages pid (odt ∷ odts) packets = (λ h. h, λ h. h)
@@ -110,6 +116,7 @@ covered greatest (o ∷ odts) =
     let same : 0 + odt_size o ≡ odt_size o = omega arith in
     covered-by (nat_lt greatest (odt_size o)) (any_large greatest odts) (nat_lt greatest (0 + odt_size o)) (ap (nat_lt greatest) same)
 
+-- whether an ODT of it is too large depends on the ODTs alone
 pub room-without : (layout : LayoutValue) (l : DaqList) → l.stamp ≡ Without → has_large_odt layout l ≡ any_large (greatest_size layout) l.odts
 room-without layout l e = ap (λ (s : Stamp). any_large (greatest_size layout) l.odts || nat_lt (greatest_size layout) (stamp_size s + first_size l.odts)) e ∙ covered (greatest_size layout) l.odts
 
@@ -119,6 +126,7 @@ without : (l : LayoutValue) (s : Stamp) → l.clock.stamp ≡ Without → IsStam
 without l s e (inl h) = h
 without l s e (inr h) = h ∙ e
 
+-- no list of its slave has time stamps
 pub no-lists-stamped : (v : SlaveValue) (i : ℕ) → IsSlave v → (layout_of v).clock.stamp ≡ Without → (list_at v.daq i).stamp ≡ Without
 no-lists-stamped v i h e =
     elim (nat_lt i (length v.daq.lists)) as (λ b. nat_lt i (length v.daq.lists) ≡ b → (list_at v.daq i).stamp ≡ Without) [
@@ -131,6 +139,7 @@ mode-by true b = refl
 mode-by false true = refl
 mode-by false false = refl
 
+-- the one mode of lists is 0
 pub no-modes : (layout : LayoutValue) (mode : ℕ) → layout.clock.stamp ≡ Without → is_mode layout mode ≡ (mode == 0)
 no-modes layout mode e = ap (λ (s : Stamp). (mode == 0) || ((mode == 0x10) && has_stamp s)) e ∙ mode-by (mode == 0) (mode == 0x10)
 
@@ -153,6 +162,7 @@ some-bytes : (p : List ℕ) → p ≢ [] → 1 ≤ length p
 some-bytes [] h = absurd (h refl)
 some-bytes (b ∷ p) h = omega arith
 
+-- within a session GET_DAQ_CLOCK is an unknown command, and only ends a block that is under way
 pub no-clock : (v : SlaveValue) (p : ArrayVec ℕ) (a : Answer) (w : SlaveValue) → (layout_of v).clock.stamp ≡ Without → v.connected ≡ true → byte_at 0 p.items ≡ 0xDC → p.items ≢ [] → Answers v (requests.Command p) a w → (a ≡ answers.Packets ((0xFE ∷ 0x20 ∷ []) ∷ [])) × (w ≡ noblock v)
 no-clock v p a w e on code some k =
     let spelt : Decodes (layout_of v).order p.items (Ok commands.GetDaqClock) = (record { first = code; enough = some-bytes p.items some }, tt) in
@@ -161,9 +171,11 @@ no-clock v p a w e on code some k =
     let done = taken-by v v.connected a w (Executes commands.GetDaqClock v a w) _ on heeded in
     refused-by v done.0 a w e done.1 done.2
 
+-- DAQ_PROPERTIES has bits 0 and 1, and bit 7 where the layout asks to be told of lost samples
 pub plain-properties : (layout : LayoutValue) → layout.clock.stamp ≡ Without → daq_properties layout ≡ 0x03 + (if layout.extras.tells_overload then 0x80 else 0)
 plain-properties layout e = ap (λ (s : Stamp). 0x03 + (if has_stamp s then 0x10 else 0) + (if layout.extras.tells_overload then 0x80 else 0)) e
 
+-- TIMESTAMP_MODE and TIMESTAMP_TICKS are 0
 pub plain-resolution : (layout : LayoutValue) → layout.clock.stamp ≡ Without → (timestamp_mode layout.clock ≡ 0) × (timestamp_ticks layout.clock ≡ 0)
 plain-resolution layout e = (
   ap (λ (s : Stamp). if has_stamp s then stamp_size s + 0x10 * layout.clock.unit else 0) e,

@@ -5,8 +5,8 @@ use Rattle.xcp_packet.specs.declared.Command.TheVariants as commands
 use Rattle.xcp_packet.specs.declared.Reply.{Reply}
 use Rattle.xcp_packet.specs.declared.Sent.{Sent}
 use Rattle.xcp_packet.specs.declared.Sent.TheVariants as sents
-use Rattle.xcp_packet.specs.declared.Fault.{Fault}
-use Rattle.xcp_packet.specs.declared.Fault.TheVariants as faults
+use Rattle.xcp_packet.specs.declared.CommandError.{CommandError}
+use Rattle.xcp_packet.specs.declared.CommandError.TheVariants as faults
 use Rattle.xcp_transfer.specs.TransferValue.{response_room}
 use Rattle.xcp_packet.specs.ReplyInBytes.{fault_reply, sent_packets, reply_packets}
 use Rattle.xcp_packet.specs.Rows.{Tells}
@@ -40,13 +40,13 @@ said_sent l sents.Nothing bytes (Some reply) h = absurd (cc)
 said_sent l sents.Nothing bytes None h = refl
 
 -- a refusal is its error packet alone
-pub said_fault : (l : LayoutValue) (fault : Fault) (bytes : List ℕ) → answer_said l.order (Err fault) bytes ≡ answer_of l (Some (fault_reply fault))
+pub said_fault : (l : LayoutValue) (fault : CommandError) (bytes : List ℕ) → answer_said l.order (Err fault) bytes ≡ answer_of l (Some (fault_reply fault))
 said_fault l (faults.Code code) bytes = refl
 said_fault l (faults.Count code count) bytes = refl
 said_fault l (faults.BlockSize code size) bytes = refl
 
 -- a command is executed where its row is met at the slave that it finds and the row's outcome is answered
-pub obeyed : (c : Command) (v u w : SlaveValue) (a : Answer) (r : Result Sent Fault) (bytes : List ℕ) → u ≡ found_by c v → TellsRow c u r bytes w → a ≡ answer_said (layout_of v).order r bytes → Executes c v a w
+pub obeyed : (c : Command) (v u w : SlaveValue) (a : Answer) (r : Result Sent CommandError) (bytes : List ℕ) → u ≡ found_by c v → TellsRow c u r bytes w → a ≡ answer_said (layout_of v).order r bytes → Executes c v a w
 unfolding TellsRow
 obeyed c v u w a (Ok sent) bytes e m s =
     let k = subst (λ (x : SlaveValue). Tells (layout_of x).order (response_room (layout_of x)) (row c x) (noblock x) (Ok sent) bytes w) e m in

@@ -29,11 +29,11 @@ use Rattle.xcp_daq.specs.DaqInvariant.{FitsPackets, IsList, IsPointer, IsPointer
 use Rattle.xcp_daq.specs.Pools.{joined, list_of}
 use Rattle.xcp_daq.specs.AllocationSequence.{may_follow}
 use Rattle.xcp_daq.specs.Allocating.{alloc_daq_refusal, alloc_daq_after, alloc_odt_refusal, alloc_odt_after, alloc_odt_entry_refusal, alloc_odt_entry_after}
-use Rattle.xcp_daq.specs.Configuring.{clear_daq_list_refusal, clear_daq_list_after, cleared, set_daq_ptr_refusal, set_daq_ptr_after, write_daq_refusal, write_daq_after, written_at, moved_on, moved_by, has_no_pointer, pointed_list_runs, element_rows, unless, write_daqs, multiple, all_or_none, write_daq_multiple_after, is_mode, stamp_asked, read_daq_after, set_daq_list_mode_refusal, set_daq_list_mode_after}
+use Rattle.xcp_daq.specs.Configuring.{clear_daq_list_refusal, clear_daq_list_after, cleared, set_daq_ptr_refusal, set_daq_ptr_after, write_daq_refusal, write_daq_after, entry_written, moved_on, moved_by, has_no_pointer, pointed_list_runs, element_rows, unless, write_daqs, multiple, all_or_none, write_daq_multiple_after, is_mode, stamp_asked, read_daq_after, set_daq_list_mode_refusal, set_daq_list_mode_after}
 use Rattle.xcp_daq.specs.Starting.{stopped, started, selected, switched, synchronised, start_stop_daq_list_refusal, start_stop_daq_list_after, start_stop_synch_refusal, start_stop_synch_after}
 use Rattle.xcp_daq.specs.Sample.{counts, counted, after_event}
 use Rattle.xcp_daq.proofs.DaqInvariantLemmas.{all_set, all_part, entries_by_list, lawful_last, lawful_pointer, lawful_added, lawful_map, lawful_more_odts, lawful_more_entries, lawful_entry, lawful_mode, lawful_bare, lawful_bound, lawful_stopped, lawful_started, lawful_selected, cleared_twice, stands_still, moved_in, grows_entry, lawful_synchronised, synchronised_odts, lawful_counted, counted_odts}
-use Rattle.xcp_slave.specs.SlaveInvariant.{LiesWritten, HasRoom, IsLists, IsStampOf}
+use Rattle.xcp_slave.specs.SlaveInvariant.{LiesWritten, FitsMaxDto, IsLists, IsStampOf}
 use Rattle.xcp_slave.proofs.ClassLimitLemmas.{few-events}
 
 -- none of the tests holds
@@ -72,12 +72,12 @@ is_true true h = refl
 is_true false h = cc
 
 -- list i gives way to another
-with-list : (l : LayoutValue) (v : DaqValue) (i : ℕ) (x : DaqList) → IsLists l v → IsDaq (with_list v i x) → All (LiesWritten l) (joined x.odts) → HasRoom l x → IsLists l (with_list v i x)
+with-list : (l : LayoutValue) (v : DaqValue) (i : ℕ) (x : DaqList) → IsLists l v → IsDaq (with_list v i x) → All (LiesWritten l) (joined x.odts) → FitsMaxDto l x → IsLists l (with_list v i x)
 with-list l v i x h d written room = record {
   class = h.class;
   daq = d;
   inside = subst (All (LiesWritten l)) (sym (entries_by_list (slice_set v.lists i x))) (all_set (LiesWritten l) (λ (y : DaqList). joined y.odts) v.lists i x (subst (All (LiesWritten l)) (entries_by_list v.lists) h.inside) written);
-  room = All-set (HasRoom l) v.lists i x room h.room;
+  room = All-set (FitsMaxDto l) v.lists i x room h.room;
 }
 
 -- the written entries of list i, and of its ODT j
@@ -87,7 +87,7 @@ entries-at l v i h below = all_part (LiesWritten l) (λ (y : DaqList). joined y.
 odt-entries : (l : LayoutValue) (v : DaqValue) (i j : ℕ) → IsLists l v → i < length v.lists → j < length (list_at v i).odts → All (LiesWritten l) (odt_at v i j)
 odt-entries l v i j h below place = all_part (LiesWritten l) (λ (x : List (Option Element)). x) (list_at v i).odts j [] place (entries-at l v i h below)
 
-room-at : (l : LayoutValue) (v : DaqValue) (i : ℕ) → IsLists l v → i < length v.lists → HasRoom l (list_at v i)
+room-at : (l : LayoutValue) (v : DaqValue) (i : ℕ) → IsLists l v → i < length v.lists → FitsMaxDto l (list_at v i)
 room-at l v i h below = h.room i no_list below
 
 with-last : (l : LayoutValue) (v : DaqValue) (a : Option Allocation) → IsLists l v → IsLists l (record v { last = a })
@@ -97,7 +97,7 @@ with-pointer : (l : LayoutValue) (v : DaqValue) (p : Option Pointer) → IsLists
 with-pointer l v p h k = record { class = h.class; daq = lawful_pointer v p h.daq k; inside = h.inside; room = h.room }
 
 -- a list that is stopped has room
-idle-room : (l : LayoutValue) (x : DaqList) → IsStampOf l x.stamp → x.running ≡ false → HasRoom l x
+idle-room : (l : LayoutValue) (x : DaqList) → IsStampOf l x.stamp → x.running ≡ false → FitsMaxDto l x
 idle-room l x s e = record { stamp = s; fits = λ k. cc; first = λ k. cc }
 
 -- no lists
@@ -126,7 +126,7 @@ alloc-daq l count v h r =
       class = h.class;
       daq = lawful_added v count h.daq (at_most _ _ d.0);
       inside = subst (λ (xs : List (List (Option Element))). All (LiesWritten l) (joined xs)) (sym odts) h.inside;
-      room = All-append (HasRoom l) v.lists (replicate count no_list) h.room (All-replicate (HasRoom l) count no_list (idle-room l no_list (inl refl) refl));
+      room = All-append (FitsMaxDto l) v.lists (replicate count no_list) h.room (All-replicate (FitsMaxDto l) count no_list (idle-room l no_list (inl refl) refl));
     } in
     with-last l w (Some AllocDaq) lists
 
@@ -205,7 +205,7 @@ set-pointer l list odt entry v h r =
     let c = b.1 in
     with-pointer l v (Some (record { list = list; odt = odt; entry = entry })) h (record { list = is_below _ _ a.0; odt = is_below _ _ b.0; entry = is_below _ _ c.0 })
 
-entry-written : (l : LayoutValue) (size address : ℕ) (v : DaqValue) (p : Pointer) → IsLayout l → IsLists l v → IsPointer v p → (list_at v p.list).running ≡ false → 1 ≤ size → size ≤ greatest_size l → lies_inside l address size ≡ true → IsLists l (written_at (Some p) (record { size = size; address = address }) v)
+entry-written : (l : LayoutValue) (size address : ℕ) (v : DaqValue) (p : Pointer) → IsLayout l → IsLists l v → IsPointer v p → (list_at v p.list).running ≡ false → 1 ≤ size → size ≤ greatest_size l → lies_inside l address size ≡ true → IsLists l (entry_written (Some p) (record { size = size; address = address }) v)
 entry-written l size address v p layout h at still some small inside =
     let e : Element = record { size = size; address = address } in
     let os : List (List (Option Element)) = (list_at v p.list).odts in
@@ -225,7 +225,7 @@ both_true false b h = cc
 is_least : (n m : ℕ) → nat_le n m ≡ true → n ≤ m
 is_least n m h = grind (arith, nat_tests, h)
 
-write-by : (l : LayoutValue) (offset size extension address : ℕ) (v : DaqValue) (o : Option Pointer) → IsLayout l → IsLists l v → IsPointerOf v o → (has_no_pointer o ≡ false) → (pointed_list_runs o v ≡ false) → 1 ≤ size → size ≤ greatest_size l → lies_inside l address size ≡ true → IsLists l (written_at o (record { size = size; address = address }) v)
+write-by : (l : LayoutValue) (offset size extension address : ℕ) (v : DaqValue) (o : Option Pointer) → IsLayout l → IsLists l v → IsPointerOf v o → (has_no_pointer o ≡ false) → (pointed_list_runs o v ≡ false) → 1 ≤ size → size ≤ greatest_size l → lies_inside l address size ≡ true → IsLists l (entry_written o (record { size = size; address = address }) v)
 write-by l offset size extension address v None layout h at some still a b c = h
 write-by l offset size extension address v (Some p) layout h at some still a b c = entry-written l size address v p layout h at still a b c
 
@@ -321,14 +321,14 @@ fits-of l x layout none =
     }
 
 -- a list that isn't large has room, running or not
-list-room : (l : LayoutValue) (x : DaqList) → IsLayout l → IsStampOf l x.stamp → is_large (greatest_size l) x ≡ false → (running selected : Bool) (since : ℕ) → HasRoom l (record x { running = running; selected = selected; since = since })
+list-room : (l : LayoutValue) (x : DaqList) → IsLayout l → IsStampOf l x.stamp → is_large (greatest_size l) x ≡ false → (running selected : Bool) (since : ℕ) → FitsMaxDto l (record x { running = running; selected = selected; since = since })
 list-room l x layout s none running selected since = record {
   stamp = s;
   fits = λ e. room-of l x.odts layout (neither-of (any_large (greatest_size l) x.odts) (nat_lt (greatest_size l) (stamp_size x.stamp + first_size x.odts)) none).0;
   first = λ e. first-of l x layout none;
 }
 
-switch-by : (l : LayoutValue) (x : DaqList) → IsLayout l → IsList x → HasRoom l x → (stop start : Bool) → (stop ≡ false → is_large (greatest_size l) x ≡ false) → IsList (if stop then stopped x else (if start then started x else selected x)) × HasRoom l (if stop then stopped x else (if start then started x else selected x))
+switch-by : (l : LayoutValue) (x : DaqList) → IsLayout l → IsList x → FitsMaxDto l x → (stop start : Bool) → (stop ≡ false → is_large (greatest_size l) x ≡ false) → IsList (if stop then stopped x else (if start then started x else selected x)) × FitsMaxDto l (if stop then stopped x else (if start then started x else selected x))
 switch-by l x layout h room true start small = (lawful_stopped x (mode_of x) x.selected refl h, idle-room l (stopped x) room.stamp refl)
 switch-by l x layout h room false true small = (lawful_started x (mode_of x) x.selected refl h (fits-of l x layout (small refl)), list-room l x layout room.stamp (small refl) true x.selected 0)
 switch-by l x layout h room false false small = (lawful_selected x (mode_of x) true refl h, record { stamp = room.stamp; fits = room.fits; first = room.first })
@@ -359,17 +359,17 @@ same_odts g same [] = refl
 same_odts g same (x ∷ lists) = ap (λ odts. odts ++ all_odts (map g lists)) (same x) ∙ ap (λ xs. x.odts ++ xs) (same_odts g same lists)
 
 -- each list changes, but for its ODTs
-mapped : (l : LayoutValue) (g : DaqList → DaqList) (v : DaqValue) → ((x : DaqList) → (g x).odts ≡ x.odts) → ((i : ℕ) → i < length v.lists → IsList (g (list_at v i)) × HasRoom l (g (list_at v i))) → IsLists l v → IsLists l (record v { lists = map g v.lists })
+mapped : (l : LayoutValue) (g : DaqList → DaqList) (v : DaqValue) → ((x : DaqList) → (g x).odts ≡ x.odts) → ((i : ℕ) → i < length v.lists → IsList (g (list_at v i)) × FitsMaxDto l (g (list_at v i))) → IsLists l v → IsLists l (record v { lists = map g v.lists })
 mapped l g v same each h = record {
   class = h.class;
   daq = lawful_map g v same (λ i below. (each i below).0) h.daq;
   inside = subst (λ (xs : List (List (Option Element))). All (LiesWritten l) (joined xs)) (sym (same_odts g same v.lists)) h.inside;
   room = λ k d below.
       (let short : k < length v.lists = omega (arith, length-map v.lists g) in
-      subst (HasRoom l) (sym (get_or-map g v.lists k no_list d short)) (each k short).1);
+      subst (FitsMaxDto l) (sym (get_or-map g v.lists k no_list d short)) (each k short).1);
 }
 
-synchronised-room : (l : LayoutValue) (x : DaqList) → IsLayout l → HasRoom l x → (stop chosen start : Bool) → (start ≡ true → chosen ≡ true → is_large (greatest_size l) x ≡ false) → HasRoom l (record (if stop then stopped x else (if not chosen then x else (if start then started x else stopped x))) { selected = false })
+synchronised-room : (l : LayoutValue) (x : DaqList) → IsLayout l → FitsMaxDto l x → (stop chosen start : Bool) → (start ≡ true → chosen ≡ true → is_large (greatest_size l) x ≡ false) → FitsMaxDto l (record (if stop then stopped x else (if not chosen then x else (if start then started x else stopped x))) { selected = false })
 synchronised-room l x layout room true chosen start small = record { stamp = room.stamp; fits = λ e. cc; first = λ e. cc }
 synchronised-room l x layout room false false start small = record { stamp = room.stamp; fits = room.fits; first = room.first }
 synchronised-room l x layout room false true true small = list-room l x layout room.stamp (small refl refl) true false 0
@@ -394,7 +394,7 @@ synch l mode v layout h r =
     ))
     h
 
-counted-room : (l : LayoutValue) (x : DaqList) (n : ℕ) → HasRoom l x → (b : Bool) → HasRoom l (if b then record x { since = n } else x)
+counted-room : (l : LayoutValue) (x : DaqList) (n : ℕ) → FitsMaxDto l x → (b : Bool) → FitsMaxDto l (if b then record x { since = n } else x)
 counted-room l x n h true = record { stamp = h.stamp; fits = h.fits; first = h.first }
 counted-room l x n h false = h
 
@@ -405,7 +405,7 @@ event l channel v h =
     (λ i below. (lawful_counted channel (list_at v i) (h.daq.each i no_list below), counted-room l (list_at v i) _ (room-at l v i h below) (counts channel (list_at v i))))
     h
 
-written-class : (size address : ℕ) (v : DaqValue) (o : Option Pointer) → (written_at o (record { size = size; address = address }) v).class ≡ v.class
+written-class : (size address : ℕ) (v : DaqValue) (o : Option Pointer) → (entry_written o (record { size = size; address = address }) v).class ≡ v.class
 written-class size address v None = refl
 written-class size address v (Some p) = refl
 

@@ -17,7 +17,7 @@ use Rattle.xcp_daq.specs.Sample.{due, odt_bytes, packet_of, stamped_packet, odt_
 use Rattle.xcp_daq.proofs.DueListLemmas.{first_true}
 use Rattle.xcp_daq.proofs.SampleLemmas.{short_odt}
 use Rattle.xcp_slave.specs.Step.{store_event, overload_event, with_overload}
-use Rattle.xcp_slave.specs.SlaveInvariant.{HasRoom, IsLists, IsDataPacket, IsWaiting}
+use Rattle.xcp_slave.specs.SlaveInvariant.{FitsMaxDto, IsLists, IsDataPacket, IsWaiting}
 
 none : {A : Type 0} (P : A → Type 0) → All P []
 none P = λ k d below. absurd (omega arith)
@@ -63,7 +63,7 @@ by_due : (l : LayoutValue) (b : Bool) (ps : List (ArrayVec ℕ)) → (b ≡ true
 by_due l true ps h = h refl
 by_due l false ps h = none (IsDataPacket l)
 
-from : (l : LayoutValue) (channel time : ℕ) (pages : PagesValue) (v : DaqValue) (i : ℕ) (lists : List DaqList) → ((k : ℕ) (d : DaqList) → k < length lists → HasRoom l (get_or lists k d) × (length (all_odts (take (i + k) v.lists)) + length (get_or lists k d).odts ≤ (limits_of l.class).odts)) → All (IsDataPacket l) (flat_map (list_packets channel time pages v) (enumerate_from i lists))
+from : (l : LayoutValue) (channel time : ℕ) (pages : PagesValue) (v : DaqValue) (i : ℕ) (lists : List DaqList) → ((k : ℕ) (d : DaqList) → k < length lists → FitsMaxDto l (get_or lists k d) × (length (all_odts (take (i + k) v.lists)) + length (get_or lists k d).odts ≤ (limits_of l.class).odts)) → All (IsDataPacket l) (flat_map (list_packets channel time pages v) (enumerate_from i lists))
 from l channel time pages v i [] h = none (IsDataPacket l)
 from l channel time pages v i (x ∷ lists) h =
     let here = h zero x (omega arith) in

@@ -140,6 +140,7 @@ slave-unasked v h t = by-asked v.overloaded (layout_of v).extras.tells_overload 
 pub sampled-alone : (v : SlaveValue) (channel n : ℕ) (signals : ArrayVec ℕ) (w : SlaveValue) → v.overloaded ≡ false → Answers v (requests.Event channel signals) (answers.Sampled n) w → (n ≡ length (event_packets v channel signals.items)) × (w.outbox ≡ v.outbox ++ event_packets v channel signals.items)
 sampled-alone v channel n signals w h k = subst (λ (b : Bool). (n ≡ length (with_overload (outbox_size v) b (event_packets v channel signals.items))) × (w.outbox ≡ v.outbox ++ with_overload (outbox_size v) b (event_packets v channel signals.items))) h (event-whole v channel n signals w k)
 
+-- where no tool has to be told, just the packets of the lists that are due are put, with the bytes that they read
 pub bytes-alone : (v : SlaveValue) (channel n : ℕ) (signals : ArrayVec ℕ) (w : SlaveValue) → IsSlave v → v.overloaded ≡ false → Answers v (requests.Event channel signals) (answers.Sampled n) w → (packets : List (ArrayVec ℕ)) × DuePackets channel v.time (with_signals signals.items v).transfer.pages v.daq 0 v.daq.lists packets × (w.outbox ≡ v.outbox ++ packets)
 bytes-alone v channel n signals w i h k =
     let r = event-reads v channel n signals w i k in

@@ -6,7 +6,7 @@ use Rattle.std.specs.Prelude.{nat_le, nat_lt}
 use Rattle.xcp_packet.specs.CommandForms.{code, least, parameters}
 use Rattle.xcp_packet.specs.ReplyPacket.{layout}
 use Rattle.xcp_packet.specs.ByteOrder.{byte_at}
-use Rattle.xcp_packet.specs.private.DecodeByCode.{readings, coded, Reads}
+use Rattle.xcp_packet.specs.private.DecodeByCode.{readings, coded, ReadsCode}
 use Rattle.xcp_packet.specs.Decoding.{Decodes}
 use Rattle.xcp_packet.specs.CommandSpelling.{AllStand, spells}
 use Rattle.xcp_packet.specs.declared.Order.{Order}
@@ -15,8 +15,8 @@ use Rattle.xcp_packet.specs.declared.Command.TheVariants as commands
 use Rattle.xcp_packet.specs.declared.Refuse.{Refuse}
 use Rattle.xcp_packet.specs.declared.Refuse.TheVariants as refuses
 use Rattle.xcp_packet.specs.declared.Sent.{Sent}
-use Rattle.xcp_packet.specs.declared.Fault.{Fault}
-use Rattle.xcp_packet.specs.declared.Fault.TheVariants as faults
+use Rattle.xcp_packet.specs.declared.CommandError.{CommandError}
+use Rattle.xcp_packet.specs.declared.CommandError.TheVariants as faults
 use Rattle.xcp_packet.specs.declared.Code.TheVariants.{CmdSyntax}
 use Rattle.xcp_packet.proofs.ParameterLemmas.{reading, coded-code, least-positive}
 use Rattle.xcp_packet.proofs.DecodingLaws.{exactly, decodes_total, spelling_begins}
@@ -113,25 +113,25 @@ known : (order : Order) (p : List ℕ) (c : Command) (b : Bool) → coded (byte_
 known order p c true e h = refl
 known order p c false e h = ap is_connect (same_Some _ _ (sym e ∙ connects order p h))
 
-coded_by : (v w : SlaveValue) (p : List ℕ) (a : Answer) (r : Result Sent Fault) (bytes : List ℕ) (c : Command) (b : Bool) → nat_lt (length p) (least c) ≡ b → coded (byte_at 0 p) (readings (layout_of v).order p) ≡ Some c → heeded v.connected p ≡ true → MatchBool b ((r ≡ Err (faults.Code CmdSyntax)) × (w ≡ noblock v)) (TellsRow c (found_by c v) r bytes w) → a ≡ answer_said (layout_of v).order r bytes → AnswersPacket v p a w
+coded_by : (v w : SlaveValue) (p : List ℕ) (a : Answer) (r : Result Sent CommandError) (bytes : List ℕ) (c : Command) (b : Bool) → nat_lt (length p) (least c) ≡ b → coded (byte_at 0 p) (readings (layout_of v).order p) ≡ Some c → heeded v.connected p ≡ true → MatchBool b ((r ≡ Err (faults.Code CmdSyntax)) × (w ≡ noblock v)) (TellsRow c (found_by c v) r bytes w) → a ≡ answer_said (layout_of v).order r bytes → AnswersPacket v p a w
 coded_by v w p a r bytes c true lt e h t s =
     let order = (layout_of v).order in
     let less : length p < least c = grind (arith, nat_tests, lt) in
     let d : Decodes order p (Err refuses.Short) = (some_bytes p (heeded_some v.connected p h), (c, coded-code (readings order p) (byte_at 0 p) c e, less)) in
-    (Err refuses.Short, d, in_true v.connected _ _ (short order p c v.connected e less h) (s ∙ ap (λ (x : Result Sent Fault). answer_said order x bytes) t.0, t.1))
+    (Err refuses.Short, d, in_true v.connected _ _ (short order p c v.connected e less h) (s ∙ ap (λ (x : Result Sent CommandError). answer_said order x bytes) t.0, t.1))
 coded_by v w p a r bytes c false lt e h t s =
     let order = (layout_of v).order in
     let enough : least c ≤ length p = grind (arith, nat_tests, lt) in
     (Ok c, read_spelt order p c e enough, in_true (v.connected || is_connect c) _ _ (known order p c v.connected e h) (obeyed c v (found_by c v) w a r bytes refl t s))
 
-answered_by : (v w : SlaveValue) (p : List ℕ) (a : Answer) (r : Result Sent Fault) (bytes : List ℕ) (o : Option Command) → coded (byte_at 0 p) (readings (layout_of v).order p) ≡ o → heeded v.connected p ≡ true → TellsCoded o p v r bytes w → a ≡ answer_said (layout_of v).order r bytes → AnswersPacket v p a w
+answered_by : (v w : SlaveValue) (p : List ℕ) (a : Answer) (r : Result Sent CommandError) (bytes : List ℕ) (o : Option Command) → coded (byte_at 0 p) (readings (layout_of v).order p) ≡ o → heeded v.connected p ≡ true → TellsCoded o p v r bytes w → a ≡ answer_said (layout_of v).order r bytes → AnswersPacket v p a w
 answered_by v w p a r bytes None e h t s =
     let order = (layout_of v).order in
     let some = some_bytes p (heeded_some v.connected p h) in
     let d : Decodes order p (Err refuses.Unknown) = (exactly order p (Err refuses.Unknown) (some, e) (Err refuses.Unknown)).0 refl in
-    (Err refuses.Unknown, d, in_true v.connected _ _ (unknown order p v.connected e h) (s ∙ ap (λ (x : Result Sent Fault). answer_said order x bytes) t.0, t.1))
+    (Err refuses.Unknown, d, in_true v.connected _ _ (unknown order p v.connected e h) (s ∙ ap (λ (x : Result Sent CommandError). answer_said order x bytes) t.0, t.1))
 answered_by v w p a r bytes (Some c) e h t s = coded_by v w p a r bytes c (nat_lt (length p) (least c)) refl e h t s
 
 -- and one that is heeded has the answer of its command
-pub answered : (v w : SlaveValue) (p : List ℕ) (a : Answer) (r : Result Sent Fault) (bytes : List ℕ) → heeded v.connected p ≡ true → TellsCoded (coded (byte_at 0 p) (readings (layout_of v).order p)) p v r bytes w → a ≡ answer_said (layout_of v).order r bytes → AnswersPacket v p a w
+pub answered : (v w : SlaveValue) (p : List ℕ) (a : Answer) (r : Result Sent CommandError) (bytes : List ℕ) → heeded v.connected p ≡ true → TellsCoded (coded (byte_at 0 p) (readings (layout_of v).order p)) p v r bytes w → a ≡ answer_said (layout_of v).order r bytes → AnswersPacket v p a w
 answered v w p a r bytes h t s = answered_by v w p a r bytes (coded (byte_at 0 p) (readings (layout_of v).order p)) refl h t s

@@ -28,7 +28,7 @@ use Rattle.xcp_slave.specs.Rows.{row}
 use Rattle.xcp_slave.specs.Step.{Answers, Heeds, Drains, Samples, Fires, outbox_size, with_overload, with_signals, found_by, is_connect, at_time}
 use Rattle.xcp_slave.specs.Run.{Run}
 use Rattle.xcp_slave.specs.SlaveInvariant.{IsSlave, IsOfBytes}
-use Rattle.xcp_slave.specs.MemoryEffects.{IsSteady, IsEventless, SameMemory, Write, Puts, Follows, byte_of, last_at, IsLeft}
+use Rattle.xcp_slave.specs.MemoryEffects.{IsSteady, IsEventless, SameMemory, Write, Puts, WritesLeadTo, byte_of, last_at, IsLeft}
 use Rattle.xcp_slave.proofs.StepLaws.{either, hands-part}
 use Rattle.xcp_slave.proofs.ListInvariantLemmas.{none-holds, differs}
 use Rattle.xcp_slave.proofs.TransferInvariantLemmas.{none-refused}
@@ -179,12 +179,12 @@ ecu-run v xs w i h b s r apart =
 pub same-trans : (p q r : PagesValue) → SameMemory p q → SameMemory q r → SameMemory p r
 same-trans p q r h k = record { layout = k.layout ∙ h.layout; signals = k.signals ∙ h.signals; count = k.count ∙ h.count; pages = λ i. k.pages i ∙ h.pages i; ecu = λ i. k.ecu i ∙ h.ecu i; xcp = λ i. k.xcp i ∙ h.xcp i }
 
-same-follows : (p q r : PagesValue) (ws : List Write) → SameMemory p q → Follows q ws r → Follows p ws r
+same-follows : (p q r : PagesValue) (ws : List Write) → SameMemory p q → WritesLeadTo q ws r → WritesLeadTo p ws r
 same-follows p q r [] h k = same-trans p q r h k
 same-follows p q r (x ∷ ws) h k = (k.0, k.1, same-trans p q k.0 h k.2, k.3, k.4)
 
 -- without a switch, a copy, a store and an event, what a run leaves is its writes, one after another
-pub run-puts : (v : SlaveValue) (xs : List Exchange) (w : SlaveValue) → IsSlave v → All (λ (x : Exchange). IsOfBytes x.request) xs → All (λ (x : Exchange). IsEventless x.request) xs → Run v xs w → (ws : List Write) × Puts v xs ws w × Follows v.transfer.pages ws w.transfer.pages
+pub run-puts : (v : SlaveValue) (xs : List Exchange) (w : SlaveValue) → IsSlave v → All (λ (x : Exchange). IsOfBytes x.request) xs → All (λ (x : Exchange). IsEventless x.request) xs → Run v xs w → (ws : List Write) × Puts v xs ws w × WritesLeadTo v.transfer.pages ws w.transfer.pages
 run-puts v [] w h b s r = ([], (refl, r), subst (λ (y : SlaveValue). SameMemory v.transfer.pages y.transfer.pages) (sym r) (same-memory v.transfer.pages))
 run-puts v (x ∷ xs) w h b s r =
     let next = answers-kept v x.request x.answer r.0 (b zero x (omega arith)) h r.1 in
@@ -238,7 +238,7 @@ or-none (Some y) = refl
 or-none None = refl
 
 -- after writes the tool has at an address the last byte that they put there, or else what stood there before
-pub last-stands : (p q : PagesValue) (ws : List Write) (b : ℕ) → Follows p ws q → IsLeft (last_at ws b) p q b
+pub last-stands : (p q : PagesValue) (ws : List Write) (b : ℕ) → WritesLeadTo p ws q → IsLeft (last_at ws b) p q b
 last-stands p q [] b h = same-left p q b h
 last-stands p q (x ∷ ws) b h =
     let one : IsLeft (byte_of x b) p h.1 b = subst (λ (o : Option ℕ). IsLeft o p h.1 b) (or-none (byte_of x b)) (both-left (byte_of x b) None p h.0 h.1 b (same-left p h.0 b h.2) (write-left h.0 h.1 x b h.3)) in

@@ -328,6 +328,7 @@ no-more : (class : Class) (n size : ℕ) → may_take class n size ≡ true → 
 no-more Papers n size h = grind (arith, nat_tests, h)
 no-more Large n size h = grind (arith, nat_tests, h)
 
+-- and so they fit from place 0 on
 pub taken-fit : (class : Class) (n size : ℕ) → may_take class n size ≡ true → 0 + n ≤ size
 taken-fit class n size h = let few = no-more class n size h in omega (arith, few)
 

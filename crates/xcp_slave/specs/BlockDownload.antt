@@ -30,13 +30,13 @@ pub record Brings (v : SlaveValue) (q : Request) (a : Answer) (bytes : List ℕ)
   pub brought : bytes ≡ take ((layout_of v).max_cto - 2) items.items
 
 -- the exchanges lead from v to w, and these are the bytes that they bring to the block under way, in order
-abbrev pub Gathers : SlaveValue → List Exchange → List ℕ → SlaveValue → Type 0
-Gathers v [] bytes w = (bytes ≡ []) × (w ≡ v)
-Gathers v (x ∷ xs) bytes w =
+abbrev pub GathersBlock : SlaveValue → List Exchange → List ℕ → SlaveValue → Type 0
+GathersBlock v [] bytes w = (bytes ≡ []) × (w ≡ v)
+GathersBlock v (x ∷ xs) bytes w =
     (mid : SlaveValue) × Answers v x.request x.answer mid
-    × ((IsBetween x.request × Gathers mid xs bytes w)
+    × ((IsBetween x.request × GathersBlock mid xs bytes w)
     ⊎ ((part : List ℕ) × (rest : List ℕ) × Brings v x.request x.answer part × (bytes ≡ part ++ rest)
-    × Gathers mid xs rest w))
+    × GathersBlock mid xs rest w))
 
 -- A DOWNLOAD of n bytes to the address a begins a block at v, and the exchanges go on with it and lead to u: these
 -- bytes have come so far.
@@ -50,5 +50,5 @@ pub record Comes (v : SlaveValue) (n a : ℕ) (xs : List Exchange) (came : List 
   pub begun : SlaveValue
   pub unsaid : Answers v (requests.Command packet) answers.Silent begun
   pub others : List ℕ
-  pub gathered : Gathers begun xs others u
+  pub gathered : GathersBlock begun xs others u
   pub all : came ≡ take ((layout_of v).max_cto - 2) items.items ++ others

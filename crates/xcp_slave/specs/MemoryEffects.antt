@@ -94,9 +94,9 @@ Puts v (x ∷ xs) ws w =
     ⊎ ((y : Write) × (rest : List Write) × (ws ≡ y ∷ rest) × IsWrite v x.request x.answer mid y × Puts mid xs rest w))
 
 -- these writes, one after another, lead from p to q
-abbrev pub Follows : PagesValue → List Write → PagesValue → Type 0
-Follows p [] q = SameMemory p q
-Follows p (x ∷ xs) q = (mid : PagesValue) × (next : PagesValue) × SameMemory p mid × Writes mid x.address x.bytes next × Follows next xs q
+abbrev pub WritesLeadTo : PagesValue → List Write → PagesValue → Type 0
+WritesLeadTo p [] q = SameMemory p q
+WritesLeadTo p (x ∷ xs) q = (mid : PagesValue) × (next : PagesValue) × SameMemory p mid × Writes mid x.address x.bytes next × WritesLeadTo next xs q
 
 -- the byte that a write puts at an address, if it puts one there
 abbrev pub byte_of : Write → ℕ → Option ℕ

@@ -26,7 +26,7 @@ abbrev pub IsStampOf : LayoutValue → Stamp → Type 0
 IsStampOf l stamp = (stamp ≡ Without) ⊎ (stamp ≡ l.clock.stamp)
 
 -- the time stamps of a list are the clock's; while a list runs, each of its ODTs has at most MAX_DTO - 1 bytes, the first one with the time stamp
-pub record HasRoom (l : LayoutValue) (x : DaqList) : Type 0 where
+pub record FitsMaxDto (l : LayoutValue) (x : DaqList) : Type 0 where
   pub stamp : IsStampOf l x.stamp
   pub fits : x.running ≡ true → All (λ odt. odt_size odt < l.max_dto) x.odts
   pub first : x.running ≡ true → stamp_size x.stamp + first_size x.odts < l.max_dto
@@ -36,7 +36,7 @@ pub record IsLists (l : LayoutValue) (v : DaqValue) : Type 0 where
   pub class : v.class ≡ l.class
   pub daq : IsDaq v
   pub inside : All (LiesWritten l) (all_entries v.lists)
-  pub room : All (HasRoom l) v.lists
+  pub room : All (FitsMaxDto l) v.lists
 
 -- A data packet: a packet identifier (PID) below the number of ODTs that the class has, which is that of no response and no event, and behind it 1 to
 -- MAX_DTO - 1 bytes.

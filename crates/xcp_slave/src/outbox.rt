@@ -3,7 +3,7 @@ ghost use Rattle.std.specs.Prelude.{◌≡◌, ◌≢◌, MatchBool, IfOk, ◌�
 ghost use Rattle.xcp_daq.specs.Sample.{after_event, sampled};
 ghost use Rattle.xcp_memory.specs.ClassLimits.{limits_of};
 ghost use Rattle.xcp_memory.specs.declared.ClassLimits.{ClassLimits};
-ghost use Rattle.xcp_slave.specs.private.PacketRow.{IsRow, first_of, behind_first, long_row};
+ghost use Rattle.xcp_slave.specs.private.PacketRow.{IsRow, first_in, behind_first, long_row};
 
 use crate::packet::{copied, copy_into};
 use std::alloc::{AllocError, Global};
@@ -145,7 +145,7 @@ impl Outbox {
 
     /// Takes the first packet out, if there is one, into a packet that is lent.
     pub(crate) fn take_first(&mut self, packet: &mut Packet) -> bool
-        ensures packet { first_of self.old.packets ≡ (if result then Some packet.new else None) }
+        ensures packet { first_in self.old.packets ≡ (if result then Some packet.new else None) }
         ensures others { self.new ≡ record { class = self.old.class; packets = behind_first self.old.packets } }
     {
         if self.taken == self.row.len() {

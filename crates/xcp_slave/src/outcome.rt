@@ -3,7 +3,7 @@ ghost use Rattle.std.specs.Prelude.{◌≡◌, ◌≢◌, MatchBool};
 ghost use Rattle.xcp_slave.specs.AnswerInBytes.{answer_in};
 ghost use Rattle.xcp_slave.specs.private.AnswerSaid.{answer_said};
 
-use xcp_packet::{Fault, Order, Packet, Sent, Train, Width, write_fault};
+use xcp_packet::{CommandError, Order, Packet, Sent, Train, Width, write_fault};
 
 /// What comes of a request, with what stands for the packets that are for the tool.
 #[derive(Clone, Copy, Debug, PartialEq, Eq, Drop)]
@@ -78,7 +78,7 @@ impl Outcome<Cut> {
     }
 
     /// What is told of a command: its reply stands in the lent packet, or its error packet now does.
-    pub(crate) fn of(outcome: Result<Sent, Fault>, packet: &mut Packet, order: Order) -> Told
+    pub(crate) fn of(outcome: Result<Sent, CommandError>, packet: &mut Packet, order: Order) -> Told
         ensures { answer_in result packet.new ≡ answer_said order outcome packet.old.items }
     {
         match outcome {

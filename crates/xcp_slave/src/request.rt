@@ -29,7 +29,7 @@ pub enum Request {
 
 impl Request {
     /// The same request, with its bytes lent.
-    pub fn asked(&self) -> Asked<'_>
+    pub fn lent(&self) -> Asked<'_>
         ensures request { request_asked result ≡ self.now }
         ensures short { IsShort result }
     {

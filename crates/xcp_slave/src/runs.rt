@@ -13,7 +13,7 @@ ghost use Rattle.xcp_slave.specs.SlaveInvariant.{IsOfBytes, IsSlave};
 ghost use Rattle.xcp_slave.specs.RefusalCodes.{is_code_of};
 ghost use Rattle.xcp_slave.specs.RefusingAnswers.{IsErrorPacket, IsRefusing};
 ghost use Rattle.xcp_slave.specs.Run.{Run};
-ghost use Rattle.xcp_slave.specs.MemoryEffects.{Follows, IsLeft, IsEventless, IsReading, IsSteady, IsStill, IsWrite, Puts, SameMemory, Write, last_at};
+ghost use Rattle.xcp_slave.specs.MemoryEffects.{WritesLeadTo, IsLeft, IsEventless, IsReading, IsSteady, IsStill, IsWrite, Puts, SameMemory, Write, last_at};
 ghost use Rattle.xcp_slave.specs.Step.{Answers};
 ghost use Rattle.xcp_slave.specs.SlaveValue.{SlaveValue, layout_of, noblock, opening};
 ghost use Rattle.xcp_slave.specs.Outcomes.{Answer};
@@ -87,8 +87,8 @@ pub fn the_controllers_page_is_kept()
 /// one after another.
 pub fn memory_changes_by_writes()
     ensures step { (v : SlaveValue) (q : Request) (a : Answer) (w : SlaveValue) → IsEventless q → IsSlave v → Answers v q a w → IsStill v w ⊎ ((x : Write) × IsWrite v q a w x) }
-    ensures run { (v : SlaveValue) (xs : List Exchange) (w : SlaveValue) → IsSlave v → All (λ (x : Exchange). IsOfBytes x.request) xs → All (λ (x : Exchange). IsEventless x.request) xs → Run v xs w → (ws : List Write) × Puts v xs ws w × Follows v.transfer.pages ws w.transfer.pages }
-    ensures last { (p q : PagesValue) (ws : List Write) (b : ℕ) → Follows p ws q → IsLeft (last_at ws b) p q b }
+    ensures run { (v : SlaveValue) (xs : List Exchange) (w : SlaveValue) → IsSlave v → All (λ (x : Exchange). IsOfBytes x.request) xs → All (λ (x : Exchange). IsEventless x.request) xs → Run v xs w → (ws : List Write) × Puts v xs ws w × WritesLeadTo v.transfer.pages ws w.transfer.pages }
+    ensures last { (p q : PagesValue) (ws : List Write) (b : ℕ) → WritesLeadTo p ws q → IsLeft (last_at ws b) p q b }
     ensures reading { (v : SlaveValue) (xs : List Exchange) (w : SlaveValue) → All (λ (x : Exchange). IsReading x.request) xs → Run v xs w → SameMemory v.transfer.pages w.transfer.pages }
 {}
 

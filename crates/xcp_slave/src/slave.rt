@@ -4,7 +4,7 @@ ghost use Rattle.xcp_memory.specs.EcuImage.{ecu_image, image_part, image_size};
 ghost use Rattle.xcp_memory.specs.Pages.{no_segment, segment_at};
 ghost use Rattle.xcp_memory.specs.ReferencePage.{reference_page};
 ghost use Rattle.xcp_packet.specs.ReplyPacket.{Fits};
-ghost use Rattle.xcp_packet.specs.ReplyInBytes.{IsPlain, reply_packets, sent_packets};
+ghost use Rattle.xcp_packet.specs.ReplyInBytes.{TellsNoRead, reply_packets, sent_packets};
 ghost use Rattle.xcp_packet.specs.ByteOrder.{byte_at};
 ghost use Rattle.xcp_packet.specs.private.DecodeByCode.{coded, readings};
 ghost use Rattle.xcp_slave.specs.private.ExecuteByCode.{TellsCoded, found_at, heeded};
@@ -31,7 +31,7 @@ use std::marker::Model;
 use xcp_daq::Daq;
 use xcp_memory::{Layout, Pages};
 use xcp_packet::{
-    Code, Fault, Order, Packet, Reply, Sent, commands, parameter, write_done, write_reply,
+    Code, CommandError, Order, Packet, Reply, Sent, commands, parameter, write_done, write_reply,
 };
 use xcp_transfer::{Mta, Transfer};
 
@@ -42,7 +42,7 @@ const CONNECT: u8 = 0xFF;
 const DOWNLOAD_NEXT: u8 = 0xEF;
 
 /// What comes of a command: a reply in the packet that was lent, or nothing is sent, or a refusal.
-type Handled = Result<Sent, Fault>;
+type Handled = Result<Sent, CommandError>;
 
 /// An XCP slave: segments with their pages, the signals, and one session of a tool with its DAQ
 /// lists and the packets that wait for it.
@@ -183,14 +183,14 @@ impl Slave {
 
     /// Tells a caller's proof what is true of all slaves: transfers and lists are within their
     /// limits, the lists those of the layout's class, and no more packets wait than have room. It does nothing.
-    pub fn audit(&self)
+    pub fn known(&self)
         ensures transfer { IsLawful self.now.transfer }
         ensures daq { IsDaq self.now.daq }
         ensures class { self.now.daq.class ≡ (layout_of self.now).class }
         ensures outbox { length self.now.outbox ≤ outbox_size self.now }
     {
-        self.transfer.audit();
-        self.daq.audit();
+        self.transfer.known();
+        self.daq.known();
         let _ = self.outbox.room();
     }
 
@@ -242,7 +242,7 @@ impl Slave {
         ensures { Answers self.old request.now result self.new }
     {
         let mut packet = Packet::new();
-        let told = self.answer(request.asked(), &mut packet);
+        let told = self.answer(request.lent(), &mut packet);
         told.with(packet)
     }
 
@@ -314,18 +314,18 @@ impl Slave {
     }
 
     fn refuse(&mut self, code: Code) -> Handled
-        ensures outcome { result ≡ Err (Fault.Code code) }
+        ensures outcome { result ≡ Err (CommandError.Code code) }
         ensures left { self.new ≡ noblock self.old }
     {
         self.transfer.give_up_block();
-        Err(Fault::Code(code))
+        Err(CommandError::Code(code))
     }
 
     /// Writes a reply into the packet that is lent.
     #[tactic(auto, using(xcp_packet::proofs::ReplyPacketLaws::plain_packets))]
-    fn tell(&self, reply: &Reply, packet: &mut Packet) -> Sent
+    fn respond(&self, reply: &Reply, packet: &mut Packet) -> Sent
         requires fits { Fits reply.now }
-        requires plain { IsPlain reply.now }
+        requires plain { TellsNoRead reply.now }
         ensures { sent_packets result packet.new.items ≡ reply_packets (layout_of self.now).order (response_room (layout_of self.now)) (Some reply.now) }
     {
         write_reply(packet, reply, self.order());

@@ -33,6 +33,7 @@ struct_crosses T all = recorded_send (Struct (declared.shape T)) T.D T.to T.to_o
 parcel_crosses : (N : RattleType) (g : Name.Ghosts N.Denot) (l : Ledger.Ghosts N.Denot) → IsSend (Parcel.the_row N g l)
 parcel_crosses N g l = view_send (ParcelInside.the_row N g l) _ _ _ _ (struct_crosses (ParcelInside.the_type N g l) (search (sendable, crosses, chapter.the_send) depth 20, (search (sendable, crosses, sheaf.the_send) depth 20, (search (sendable, crosses) depth 20, tt))))
 
+-- a member may cross to another thread
 pub member_crosses : (N M : RattleType) (g : Name.Ghosts N.Denot) (l : Ledger.Ghosts N.Denot) (h : Route.Ghosts M.Denot) → IsSend (Member.the_row N M g l h)
 member_crosses N M g l h =
     view_send (MemberInside.the_row N M g l h) _ _ _ _

@@ -12,12 +12,13 @@ use Rattle.xcp_locked.specs.PublishingCalls.{AreImages}
 use Rattle.xcp_service.specs.Keeping.{AreKeptSettled, AreOnce, KeeperValue, caller_limit}
 use Rattle.xcp_service.specs.Losing.{lost_in}
 use Rattle.xcp_service.specs.Parcels.{AreNumbered, HasAllReceipts, IsHandedOver, given_in}
-use Rattle.xcp_stay.specs.Stay.{AreAllMembers, IsClosed, IsKept, IsMismatch, IsOnce, LeavesKept}
+use Rattle.xcp_stay.specs.Stay.{AreAllMembers, IsClosed, IsKept, IsKeeperMismatch, IsOnce, LeavesKept}
 use Rattle.xcp_stay.specs.Team.{HaveAllServed, timekeepers}
-use Rattle.xcp_stay.specs.declared.staying.Report.{Report}
+use Rattle.xcp_stay.specs.declared.staying.StayReport.{StayReport}
 use Rattle.xcp_stay.specs.declared.unstayed.StayError.{StayError}
 
-pub kept_as : (l : LayoutValue) (callers tools tasks : ℕ) (wrote : List Given → Type 0) (k : KeeperValue) (cs : List CallerValue) (n m : ℕ) (v : SlaveValue) (r : Report) → r.chapters ≡ n → r.calls ≡ m → r.lost ≡ min (lost_in k.chapters) (2 ^ 64 - 1)
+-- a report is right where its counts are those of the chapters, these are joined, settled and written, and all members served
+pub kept_as : (l : LayoutValue) (callers tools tasks : ℕ) (wrote : List Given → Type 0) (k : KeeperValue) (cs : List CallerValue) (n m : ℕ) (v : SlaveValue) (r : StayReport) → r.chapters ≡ n → r.calls ≡ m → r.lost ≡ min (lost_in k.chapters) (2 ^ 64 - 1)
     → AreJoined l k.chapters n m v → 0 < n → AreKeptSettled k → AreAllMembers (tools + tools + tasks + timekeepers l) k cs → wrote (given_in k.chapters) → HaveAllServed l callers tools tasks cs → IsKept l callers tools tasks wrote r
 kept_as l callers tools tasks wrote k cs n m v r chapters calls lost joined some settled all written served = record {
   keeper = k;
@@ -65,5 +66,5 @@ pub left_many : (written : List Given → Type 0) (l : LayoutValue) (count count
 left_many written l count count' k v cs same h = subst (λ (n : ℕ). LeavesKept l n written k v cs) same h
 
 -- a mismatch of the same layout and as many callers
-pub mismatch_as : (l l' : LayoutValue) (n n' : ℕ) (e : StayError) → l ≡ l' → n ≡ n' → IsMismatch l n e → IsMismatch l' n' e
-mismatch_as l l' n n' e layout callers h = subst (λ (x : LayoutValue). IsMismatch x n' e) layout (subst (λ (m : ℕ). IsMismatch l m e) callers h)
+pub mismatch_as : (l l' : LayoutValue) (n n' : ℕ) (e : StayError) → l ≡ l' → n ≡ n' → IsKeeperMismatch l n e → IsKeeperMismatch l' n' e
+mismatch_as l l' n n' e layout callers h = subst (λ (x : LayoutValue). IsKeeperMismatch x n' e) layout (subst (λ (m : ℕ). IsKeeperMismatch l m e) callers h)

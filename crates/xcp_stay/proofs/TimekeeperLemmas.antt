@@ -72,10 +72,12 @@ pub is_there : (tells : Bool) (n : ℕ) → n ≡ (if tells then 1 else 0) → n
 is_there true n h = rw h refl
 is_there false n h = rw h refl
 
+-- there is one at most
 pub few_there : (tells : Bool) (n : ℕ) → n ≡ (if tells then 1 else 0) → n ≤ 1
 few_there true n h = omega (arith, h)
 few_there false n h = omega (arith, h)
 
+-- and where there is one, the layout has a clock
 pub tells_where : (tells : Bool) (n : ℕ) → n ≡ (if tells then 1 else 0) → 0 < n → tells ≡ true
 tells_where true n h some = refl
 tells_where false n h some = absurd (omega (arith, h, some))

@@ -12,7 +12,7 @@ use Rattle.xcp_locked.specs.PublishingCalls.{AreImages}
 use Rattle.xcp_service.specs.Keeping.{AreKeptSettled, KeeperValue, calls_by}
 use Rattle.xcp_service.specs.Losing.{lost_in}
 use Rattle.xcp_service.specs.Parcels.{AreNumbered, IsHandedOver, given_in}
-use Rattle.xcp_service.specs.Refusals.{IsMet, IsRefusal, RefusalValue}
+use Rattle.xcp_service.specs.Refusals.{IsMet, IsKeeperRefusal, RefusalValue}
 use Rattle.xcp_service.specs.declared.keeper.Unkept.{Unkept}
 use Rattle.xcp_service.specs.declared.keeper.Unkept.TheVariants as unkept
 use Rattle.xcp_locked.specs.declared.joining.Discord.TheVariants as discords
@@ -20,29 +20,29 @@ use Rattle.xcp_stay.specs.declared.unstayed.StayError.{StayError}
 use Rattle.xcp_stay.specs.declared.unstayed.StayError.TheVariants as errors
 use Rattle.xcp_stay.specs.declared.unstayed.Unstayed.{Unstayed}
 use Rattle.xcp_stay.specs.declared.unstayed.Unstayed.TheVariants as ends
-use Rattle.xcp_stay.specs.declared.staying.Report.{Report}
+use Rattle.xcp_stay.specs.declared.staying.StayReport.{StayReport}
 use Rattle.xcp_stay.specs.Team.{HaveAllServed, timekeepers}
 use Rattle.xcp_stay.specs.Unmet.{UnmetValue}
 
 -- why a server ends whose keeper goes no further
-abbrev pub error_of : Unkept → StayError
-error_of unkept.Memory = errors.Memory
-error_of (unkept.Discord d) = errors.Discord d
+abbrev pub stay_error : Unkept → StayError
+stay_error unkept.Memory = errors.Memory
+stay_error (unkept.Discord d) = errors.Discord d
 
 -- what is told of a server that ended early
-abbrev pub told_of : {N : Type 0} → Unstayed N → StayError
-told_of ends.Memory = errors.Memory
-told_of ends.Listener = errors.Listener
-told_of (ends.Refused r) = error_of r.why
-told_of (ends.Unmet u) = errors.Discord (discords.Chapter (length u.keeper.chapters))
+abbrev pub early_end : {N : Type 0} → Unstayed N → StayError
+early_end ends.Memory = errors.Memory
+early_end ends.Listener = errors.Listener
+early_end (ends.Refused r) = stay_error r.why
+early_end (ends.Unmet u) = errors.Discord (discords.Chapter (length u.keeper.chapters))
 
 -- A mismatch is told: a keeper whose chapters come under this number refuses what came, or one that took all doesn't meet the slave of this
 -- layout, and the next chapter is named.
-abbrev pub IsMismatch : LayoutValue → ℕ → StayError → Type 0
-IsMismatch layout desk (errors.Discord d) =
-    ((r : RefusalValue) × IsRefusal desk r × (r.why ≡ unkept.Discord d))
+abbrev pub IsKeeperMismatch : LayoutValue → ℕ → StayError → Type 0
+IsKeeperMismatch layout desk (errors.Discord d) =
+    ((r : RefusalValue) × IsKeeperRefusal desk r × (r.why ≡ unkept.Discord d))
     ⊎ ((u : UnmetValue) × (IsMet layout u.keeper u.locked → ⊥) × (d ≡ discords.Chapter (length u.keeper.chapters)))
-IsMismatch layout desk error = ⊤
+IsKeeperMismatch layout desk error = ⊤
 
 -- the open chapter has no call, since it was cut off last
 abbrev pub IsClosed : LockedValue → Type 0
@@ -64,7 +64,7 @@ pub record AreAllMembers (count : ℕ) (k : KeeperValue) (members : List CallerV
 -- run of the slave, and each is settled by all callers, with all receipts that the members ever had; so many of them were events
 -- that found no room. The scribe was given just these chapters, in order. The members are the callers with which so many seats and so many
 -- tasks did all that they did, and the one that told the time, where the layout has a clock.
-pub record IsKept (layout : LayoutValue) (callers tools tasks : ℕ) (wrote : List Given → Type 0) (r : Report) : Type 0 where
+pub record IsKept (layout : LayoutValue) (callers tools tasks : ℕ) (wrote : List Given → Type 0) (r : StayReport) : Type 0 where
   pub keeper : KeeperValue
   pub last : SlaveValue
   pub joined : AreJoined layout keeper.chapters r.chapters r.calls last

@@ -8,7 +8,7 @@ use std::alloc::{AllocError, Global};
 use std::vec::IntoIter;
 use xcp_locked::{ImageBuffer, Name, Reader};
 use xcp_scribe::Scribe;
-use xcp_seats::{Access, Door, Hall, Halt, Lobby, Losses, Pace, Place, Seat, Ticker};
+use xcp_seats::{Access, Door, Hall, Halt, Lobby, Losses, Pace, Seat, SeatPlace, Ticker};
 use xcp_service::{Collector, Member, Route, Shared};
 
 /// What the seats of a server share.
@@ -138,7 +138,7 @@ pub(crate) fn make_seats<'a, N: Name, M: Route, W, R>(
         let Some(pump) = pumps.next() else {
             unreachable!()
         };
-        let place = Place {
+        let place = SeatPlace {
             number,
             max_cto,
             times: plan.times,

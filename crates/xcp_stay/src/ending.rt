@@ -15,7 +15,7 @@ use std::boxed::Box;
 use std::sync::{Mutex, Wait};
 use xcp_locked::{Locked, Name};
 use xcp_scribe::Scribe;
-use xcp_seats::{Left, Rested};
+use xcp_seats::{Rested, SeatMembers};
 use xcp_service::{
     Collector, Former, Keeper, Member, Post, Resident, Resigned, Route, Timekeeper, Unkept,
     resign_all,
@@ -47,7 +47,7 @@ fn late_among<N: Name, M: Route>(rested: &[Rested<N, M>]) -> u64 {
 /// The members of a team: those of the seats' tools, then those of the tasks, then those of the seats' pumps.
 fn gather_team<N: Name, M: Route>(
     alloc: Global,
-    left: Vec<Left<N, M>>,
+    left: Vec<SeatMembers<N, M>>,
     rested: Vec<Rested<N, M>>,
 ) -> Result<Vec<Member<N, M>>, AllocError>
     ensures { IfOk result (λ ms. ms.items ≡ map (λ l. l.tool) left.items
@@ -55,7 +55,7 @@ fn gather_team<N: Name, M: Route>(
 {
     let mut members = Vec::new(alloc);
     let mut pumps = Vec::new(alloc);
-    for Left { tool, pump } in left {
+    for SeatMembers { tool, pump } in left {
         members.push(tool)?;
         pumps.push(pump)?;
     }
@@ -71,7 +71,7 @@ fn gather_team<N: Name, M: Route>(
 /// The members of a team, and behind them the caller that tells the time, if one does.
 fn gather<N: Name, M: Route>(
     alloc: Global,
-    left: Vec<Left<N, M>>,
+    left: Vec<SeatMembers<N, M>>,
     rested: Vec<Rested<N, M>>,
     timekeeper: Option<Timekeeper<N, M>>,
 ) -> Result<Vec<Member<N, M>>, AllocError>
@@ -198,7 +198,7 @@ fn resign<N: Name, M: Route, S: Scribe>(
     ensures closed { IfOk result (λ r. IsClosed r.0) }
     ensures images { IfOk result (λ r. AreImages (opening N.layout) (exchanges (entries_of r.1.chapters)) r.0.writer.publications) }
 {
-    resident.audit();
+    resident.known();
     let mut collector = collector;
     match resident.resign(post, &mut collector) {
         Some(locked) => Ok((locked, collector)),

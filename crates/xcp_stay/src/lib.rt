@@ -14,7 +14,7 @@ mod unmet;
 mod unstayed;
 
 pub use ending::Stayed;
-pub use staying::{Plan, Report, stay, stay_named, timekeepers};
+pub use staying::{Plan, StayReport, stay, stay_named, timekeepers};
 pub use stop_line::wait_for_stop;
 pub use unmet::Unmet;
 pub use unstayed::{StayError, Unstayed};

@@ -16,21 +16,21 @@ use together::{Work, run_crews_and};
 use xcp_locked::{Name, Reader};
 use xcp_scribe::Scribe;
 use xcp_seats::{
-    Access, Door, Entrance, Gate, Hall, Halt, Keeping, Left, Lobby, Losses, Pace, Rested, Seat,
-    Sits, Ward, Watcher, start_entrance, start_seat, start_ward,
+    Access, Door, Entrance, Hall, Halt, Inlet, Keeping, Lobby, Losses, Pace, Rested, Seat,
+    SeatMembers, Sits, Ward, Watcher, start_entrance, start_seat, start_ward,
 };
 use xcp_service::{Collector, Halted, Member, Route, Shared};
 
 /// What comes of a team, once all have ended.
 #[derive(Drop)]
 pub(crate) struct Ended<N: Name, M: Route, S: Scribe> {
-    pub left: Vec<Left<N, M>>,
+    pub left: Vec<SeatMembers<N, M>>,
     pub rested: Vec<Rested<N, M>>,
     pub kept: Result<Collector<N, M, S>, Halted<N, M>>,
 }
 
 /// The threads of seats.
-type Handles<'s, N, M, W, R> = Vec<PromisedHandle<Left<N, M>, Sits<'s, N, M, W, R>>>;
+type Handles<'s, N, M, W, R> = Vec<PromisedHandle<SeatMembers<N, M>, Sits<'s, N, M, W, R>>>;
 
 /// Runs a seat behind each door and so many tasks, each in a thread of its own, an entrance in one, and a ward in one; the keeper has the
 /// thread that calls.
@@ -138,7 +138,7 @@ fn in_scope<
         halt,
         watcher,
     };
-    let Ok(gate) = Gate::new(access) else {
+    let Ok(gate) = Inlet::new(access) else {
         return Err(Unstayed::Listener);
     };
     let seats = make_seats(alloc, &common, tools, pumps, max_cto, plan)?;

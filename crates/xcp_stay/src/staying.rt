@@ -5,8 +5,9 @@ ghost use Rattle.xcp_locked.specs.Caller.{callers_of};
 ghost use Rattle.xcp_service.specs.Losing.{lost_in};
 ghost use Rattle.xcp_service.specs.Residents.{IsUncut};
 ghost use Rattle.xcp_service.specs.Telling.{has_clock};
-ghost use Rattle.xcp_stay.specs.Stay.{IsKept, IsMismatch, LeavesKept};
+ghost use Rattle.xcp_stay.specs.Stay.{IsKept, IsKeeperMismatch, LeavesKept};
 ghost use Rattle.xcp_stay.specs.Team.{HaveAllServed, ToldTimes, timekeepers};
+ghost use Rattle.xcp_locked.specs.UnnamedSlave.{IsNamed};
 
 use crate::boxed::Boxed;
 use crate::dealing::{Dealt, deal, make_doors};
@@ -48,7 +49,7 @@ pub struct Plan {
 
 /// What is told of a server that stayed.
 #[derive(Clone, Copy, Debug, PartialEq, Eq)]
-pub struct Report {
+pub struct StayReport {
     /// How many chapters the journal had, the last one included.
     pub chapters: u64,
     /// How many calls were accepted, all of them in these chapters.
@@ -95,14 +96,14 @@ pub fn stay<S: Scribe + Send, W: Watcher + Sync, R: Threads + Wait + time::Clock
     scribe: S,
     halt: &Halt,
     watcher: &W,
-) -> Result<(Report, S), StayError>
+) -> Result<(StayReport, S), StayError>
     requires callers { plan.tools + plan.tools + plan.tasks ≤ unnamed.callers }
     requires clock { has_clock unnamed.layout ≡ true → plan.tools + plan.tools + plan.tasks + 1 ≡ unnamed.callers }
     requires readers { plan.tasks ≤ 6 }
     requires scribe { S.wrote scribe [] }
     ensures kept { IfOk result (λ r. IsKept unnamed.layout unnamed.callers plan.tools plan.tasks
         (S.wrote r.1) r.0) }
-    ensures mismatch { IfErr result (IsMismatch unnamed.layout unnamed.callers) }
+    ensures mismatch { IfErr result (IsKeeperMismatch unnamed.layout unnamed.callers) }
 {
     stay_and_tell::<Brand, S, W, R>(rt, alloc, unnamed, access, plan, scribe, halt, watcher)
 }
@@ -122,21 +123,20 @@ fn stay_and_tell<
     scribe: S,
     halt: &Halt,
     watcher: &W,
-) -> Result<(Report, S), StayError>
-    requires name { (unnamed.name ≡ N.name) × (unnamed.callers ≡ N.parts)
-        × (unnamed.layout ≡ N.layout) × (unnamed.bank ≡ N.bank) }
+) -> Result<(StayReport, S), StayError>
+    requires name { IsNamed unnamed N.name N.parts N.layout N.bank }
     requires callers { plan.tools + plan.tools + plan.tasks ≤ unnamed.callers }
     requires clock { has_clock unnamed.layout ≡ true → plan.tools + plan.tools + plan.tasks + 1 ≡ unnamed.callers }
     requires readers { plan.tasks ≤ 6 }
     requires scribe { S.wrote scribe [] }
     ensures kept { IfOk result (λ r. IsKept unnamed.layout unnamed.callers plan.tools plan.tasks
         (S.wrote r.1) r.0) }
-    ensures mismatch { IfErr result (IsMismatch unnamed.layout unnamed.callers) }
+    ensures mismatch { IfErr result (IsKeeperMismatch unnamed.layout unnamed.callers) }
 {
     let stayed = stay_named::<N, S, W, R>(rt, alloc, unnamed, access, plan, scribe, halt, watcher);
     match stayed {
         Ok(stayed) => {
-            let told = tell(&stayed);
+            let told = report_of(&stayed);
             Ok((told, stayed.scribe))
         }
         Err(unstayed) => Err(unstayed.told()),
@@ -144,12 +144,12 @@ fn stay_and_tell<
 }
 
 /// What is told of a server that left this.
-fn tell<N: Name, S: Scribe>(stayed: &Stayed<N, S>) -> Report
+fn report_of<N: Name, S: Scribe>(stayed: &Stayed<N, S>) -> StayReport
     ensures chapters { result.chapters ≡ stayed.now.locked.chapter }
     ensures calls { result.calls ≡ stayed.now.locked.before }
     ensures lost { result.lost ≡ min (lost_in stayed.now.keeper.chapters) (2 ^ 64 - 1) }
 {
-    Report {
+    StayReport {
         chapters: stayed.locked.chapter(),
         calls: stayed.locked.before(),
         lost: stayed.keeper.lost(),
@@ -175,8 +175,7 @@ pub fn stay_named<
     halt: &Halt,
     watcher: &W,
 ) -> Result<Stayed<N, S>, Unstayed<N>>
-    requires name { (unnamed.name ≡ N.name) × (unnamed.callers ≡ N.parts)
-        × (unnamed.layout ≡ N.layout) × (unnamed.bank ≡ N.bank) }
+    requires name { IsNamed unnamed N.name N.parts N.layout N.bank }
     requires callers { plan.tools + plan.tools + plan.tasks ≤ unnamed.callers }
     requires clock { has_clock unnamed.layout ≡ true → plan.tools + plan.tools + plan.tasks + 1 ≡ unnamed.callers }
     requires readers { plan.tasks ≤ 6 }
@@ -199,8 +198,7 @@ pub fn stay_named<
 /// Opens a slave and a post. It isn't inlined, so that its stack is free again while the server runs.
 #[inline(never)]
 fn make_ready<N: Name>(alloc: Global, unnamed: Unnamed) -> Result<Ready<N>, AllocError>
-    requires name { (unnamed.name ≡ N.name) × (unnamed.callers ≡ N.parts)
-        × (unnamed.layout ≡ N.layout) × (unnamed.bank ≡ N.bank) }
+    requires name { IsNamed unnamed N.name N.parts N.layout N.bank }
     ensures first { IfOk result (λ r. IsUncut N.layout r.opening.value.locked) }
     ensures callers { IfOk result (λ r. r.opening.value.callers.items ≡ callers_of unnamed.layout unnamed.callers) }
     ensures limit { IfOk result (λ r. r.max_cto ≡ unnamed.layout.max_cto) }
@@ -387,6 +385,6 @@ fn dismiss<N: Name, M: Route>(
     ensures told { IfSome result (ToldTimes N.parts) }
 {
     let timekeeper = timekeeper?.into_inner();
-    timekeeper.audit();
+    timekeeper.known();
     Some(timekeeper)
 }

@@ -1,6 +1,6 @@
 //! Why a server that stays doesn't begin, or ends early.
 ghost use Rattle.std.specs.Prelude.{◌≡◌};
-ghost use Rattle.xcp_stay.specs.Stay.{IsMismatch, told_of};
+ghost use Rattle.xcp_stay.specs.Stay.{IsKeeperMismatch, early_end};
 
 use crate::unmet::Unmet;
 use std::alloc::AllocError;
@@ -34,8 +34,8 @@ pub enum Unstayed<N: Name> {
 impl<N: Name> Unstayed<N> {
     /// What is told of it. A mismatch is told only where the keeper refuses what came, or doesn't meet the slave.
     pub fn told(&self) -> StayError
-        ensures told { result ≡ told_of self.now }
-        ensures mismatch { IsMismatch N.layout N.parts result }
+        ensures told { result ≡ early_end self.now }
+        ensures mismatch { IsKeeperMismatch N.layout N.parts result }
     {
         match self {
             Unstayed::Memory => StayError::Memory,
@@ -67,9 +67,9 @@ impl<N: Name, M: Route> From<Halted<N, M>> for Unstayed<N> {
 }
 
 impl From<Unkept> for StayError {
-    ghost use Rattle.xcp_stay.specs.Stay.{error_of};
+    ghost use Rattle.xcp_stay.specs.Stay.{stay_error};
 
-    ghost from_gives = { λ unkept e. e ≡ error_of unkept };
+    ghost from_gives = { λ unkept e. e ≡ stay_error unkept };
 
     fn from(unkept: Unkept) -> StayError {
         match unkept {

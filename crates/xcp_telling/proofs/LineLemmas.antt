@@ -5,6 +5,7 @@ use Rattle.std.proofs.lemmas.Str.Pattern.{drop_at_char}
 use Rattle.std.proofs.lemmas.List.{take-append-drop}
 use Rattle.xcp_telling.specs.Locating.{IsFirstLine, IsLastLine}
 
+-- what stands before a line feed is the first line, where it is the head with a colon and the words behind it
 pub is_first : (head front lines line more words : List ℕ) → lines ≡ line ++ (10 ∷ more) → line ≡ front ++ (codes ": " ++ words) → front ≡ head → IsFirstLine head lines words
 is_first head front lines line more words cut parted same = (line, more, cut, rw (← same) parted)
 

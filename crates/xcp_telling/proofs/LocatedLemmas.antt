@@ -2,7 +2,7 @@
 use Rattle.std.proofs.Common.{◌≡◌, ℕ, List, [], ◌∷◌, ◌++◌, codes, flat_map, append_assoc, sym, ap, ◌∙◌, refl, inl, inr, subst}
 use Rattle.std.specs.Str.Iter.{LacksByte}
 use Rattle.std.proofs.lemmas.List.Elements.{All-nil, All-cons}
-use Rattle.xcp_telling.specs.Locating.{AreLocated, IsLocated, IsPlace, ended}
+use Rattle.xcp_telling.specs.Locating.{AreLocated, IsLocated, IsPlace, ended_lines}
 
 -- they may stay as they are
 pub stays : (words told : List ℕ) → told ≡ words → IsLocated words told
@@ -39,8 +39,8 @@ one_more rest line more words told cut lacks is h = record {
   rest = h.rest;
   apart = All-cons (LacksByte 10) line h.lines lacks h.apart;
   each = (is, h.each);
-  cut = cut ∙ ap (λ ms. line ++ (10 ∷ ms)) h.cut ∙ sym (append_assoc line (10 ∷ []) (flat_map ended h.lines ++ h.rest)) ∙ sym (append_assoc (ended line) (flat_map ended h.lines) h.rest);
-  joined = ap (λ ms. words ++ (10 ∷ ms)) h.joined ∙ sym (append_assoc words (10 ∷ []) (flat_map ended h.others ++ h.rest)) ∙ sym (append_assoc (ended words) (flat_map ended h.others) h.rest);
+  cut = cut ∙ ap (λ ms. line ++ (10 ∷ ms)) h.cut ∙ sym (append_assoc line (10 ∷ []) (flat_map ended_lines h.lines ++ h.rest)) ∙ sym (append_assoc (ended_lines line) (flat_map ended_lines h.lines) h.rest);
+  joined = ap (λ ms. words ++ (10 ∷ ms)) h.joined ∙ sym (append_assoc words (10 ∷ []) (flat_map ended_lines h.others ++ h.rest)) ∙ sym (append_assoc (ended_lines words) (flat_map ended_lines h.others) h.rest);
 }
 
 -- what is told of these lines, if this is told of what is left of them
@@ -49,7 +49,7 @@ Continues lines rest before = (told : List ℕ) → AreLocated rest told → Are
 
 -- one more line of them is told
 pub go_on : (lines rest line more before after : List ℕ) → Continues lines rest before → rest ≡ line ++ (10 ∷ more) → LacksByte 10 line
-    → (words : List ℕ) × IsLocated line words × (after ≡ before ++ ended words) → Continues lines more after
+    → (words : List ℕ) × IsLocated line words × (after ≡ before ++ ended_lines words) → Continues lines more after
 go_on lines rest line more before after goes cut lacks (words, is, put) = λ told h.
     let whole : after ++ told ≡ before ++ (words ++ (10 ∷ told)) =
     ap (λ ws. ws ++ told) put ∙ append_assoc before (words ++ (10 ∷ [])) told ∙ ap (λ ws. before ++ ws) (append_assoc words (10 ∷ []) told) in

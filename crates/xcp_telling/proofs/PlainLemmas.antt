@@ -4,10 +4,10 @@ use Rattle.std.proofs.lemmas.Bool.{false≢true}
 use Rattle.std.proofs.Common.{slice_index_or as get_or}
 use Rattle.std.specs.Bool.{Decides, MatchBool}
 use Rattle.std.specs.List.{remove}
-use Rattle.xcp_telling.specs.PlainWords.{AsksPlainly, IsTaken}
+use Rattle.xcp_telling.specs.PlainWords.{AsksPlainly, IsPlainAsked}
 
 -- if it asks for faults without words, it can be taken away
-pub second_is_taken : {X : Type 0} (f : X → List ℕ) (xs : List X) → AsksPlainly (map f xs) → IsTaken (map f xs) (map f (remove xs 1))
+pub second_is_taken : {X : Type 0} (f : X → List ℕ) (xs : List X) → AsksPlainly (map f xs) → IsPlainAsked (map f xs) (map f (remove xs 1))
 second_is_taken f [] asks = elim asks [ ]
 second_is_taken f (name ∷ []) asks = elim asks [ ]
 second_is_taken f (name ∷ plain ∷ rest) asks = (f name, map f rest, ap (λ w. f name ∷ w ∷ map f rest) asks, refl)

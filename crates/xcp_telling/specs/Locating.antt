@@ -40,8 +40,8 @@ IsLocated words told =
     × (words ≡ front ++ (codes ": " ++ rest)) × (told ≡ front ++ (place ++ (codes ": " ++ rest))))
 
 -- lines, each with its line feed
-abbrev pub ended : List ℕ → List ℕ
-ended line = line ++ (line_feed ∷ [])
+abbrev pub ended_lines : List ℕ → List ℕ
+ended_lines line = line ++ (line_feed ∷ [])
 
 -- What is told are the lines of a text, one for one and in order, each located. What stands behind the last line feed is told as it is.
 pub record AreLocated (text told : List ℕ) : Type 0 where
@@ -50,5 +50,5 @@ pub record AreLocated (text told : List ℕ) : Type 0 where
   pub rest : List ℕ
   pub apart : All (LacksByte line_feed) lines
   pub each : AllZip IsLocated lines others
-  pub cut : text ≡ flat_map ended lines ++ rest
-  pub joined : told ≡ flat_map ended others ++ rest
+  pub cut : text ≡ flat_map ended_lines lines ++ rest
+  pub joined : told ≡ flat_map ended_lines others ++ rest

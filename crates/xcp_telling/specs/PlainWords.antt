@@ -7,5 +7,5 @@ AsksPlainly (name ∷ word ∷ rest) = word ≡ codes "--plain"
 AsksPlainly _ = ⊥
 
 -- they have it there, and these are the others
-abbrev pub IsTaken : List (List ℕ) → List (List ℕ) → Type 0
-IsTaken words others = (name : List ℕ) × (rest : List (List ℕ)) × (words ≡ name ∷ codes "--plain" ∷ rest) × (others ≡ name ∷ rest)
+abbrev pub IsPlainAsked : List (List ℕ) → List (List ℕ) → Type 0
+IsPlainAsked words others = (name : List ℕ) × (rest : List (List ℕ)) × (words ≡ name ∷ codes "--plain" ∷ rest) × (others ≡ name ∷ rest)

@@ -7,7 +7,7 @@ ghost use Rattle.xcp_config.specs.ConfigText.{HasLayoutWith};
 ghost use Rattle.xcp_describe.specs.Findings.{IsClean, IsFound};
 ghost use Rattle.xcp_describe.specs.FindingsText.{clean_text};
 ghost use Rattle.xcp_describe.specs.declared.findings.Findings.{Findings};
-ghost use Rattle.xcp_telling.specs.Checking.{IsTold};
+ghost use Rattle.xcp_telling.specs.Checking.{AreFindingsTold};
 
 use crate::located::located_bytes;
 use std::alloc::{AllocError, Global};
@@ -29,14 +29,14 @@ pub fn check_located<W: Write>(
     writer: &mut Watched<W>,
 ) -> Result<Findings, Fault>
     // What is written is one text, all of it: the lines of a check of these bytes, in order, each located.
-    ensures found { IfOk result (λ f. (told : List ℕ) × IsTold files.now file.now f told × Appends (W.contents writer.old.inner) (W.contents writer.new.inner) told) }
+    ensures found { IfOk result (λ f. (told : List ℕ) × AreFindingsTold files.now file.now f told × Appends (W.contents writer.old.inner) (W.contents writer.new.inner) told) }
     ensures layout { IfOk result (λ f. f.fault ≡ None → (l : LayoutValue) × HasLayoutWith files.now file.now l) }
     ensures refused { IfErr result (λ e. (e ≡ Fault.Memory) ⊎ (e ≡ Fault.Stream 2)) }
     ensures clean { IfOk result (λ f. IsClean f → Appends (W.contents writer.old.inner) (W.contents writer.new.inner) clean_text) }
     // A fault of the writer comes exactly where a write failed: then a front of such a text was written. Want of memory comes before
     // anything is written.
     ensures write { result ≡ Err (Fault.Stream 2) → writer.new.failures ≡ writer.old.failures + 1 }
-    ensures front { result ≡ Err (Fault.Stream 2) → (f : Findings) × (told : List ℕ) × IsTold files.now file.now f told × AppendsFront (W.contents writer.old.inner) (W.contents writer.new.inner) told }
+    ensures front { result ≡ Err (Fault.Stream 2) → (f : Findings) × (told : List ℕ) × AreFindingsTold files.now file.now f told × AppendsFront (W.contents writer.old.inner) (W.contents writer.new.inner) told }
     ensures unfailed { result ≢ Err (Fault.Stream 2) → writer.new.failures ≡ writer.old.failures }
     ensures unwritten { result ≡ Err Fault.Memory → writer.new ≡ writer.old }
 {
@@ -55,7 +55,7 @@ fn located_findings(
     file: &[u8],
     files: &[DataFile],
 ) -> Result<(Findings, Vec<u8>), AllocError>
-    ensures found { IfOk result (λ r. IsTold files.now file.now r.0 r.1.items) }
+    ensures found { IfOk result (λ r. AreFindingsTold files.now file.now r.0 r.1.items) }
     ensures layout { IfOk result (λ r. r.0.fault ≡ None → (l : LayoutValue) × HasLayoutWith files.now file.now l) }
 {
     let (findings, lines) = checked(alloc, file, files)?;

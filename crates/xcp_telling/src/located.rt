@@ -1,6 +1,6 @@
 //! The lines of a check, each with the line of its table and the name of its entry.
 ghost use Rattle.std.specs.Prelude.{◌≡◌, ◌++◌, ℕ, List, codes, IfOk, IfSome, OnOk, string_bytes};
-ghost use Rattle.xcp_telling.specs.Locating.{AreLocated, IsLocated, ended};
+ghost use Rattle.xcp_telling.specs.Locating.{AreLocated, IsLocated, ended_lines};
 
 use crate::entries::located;
 use std::alloc::{AllocError, Global};
@@ -35,7 +35,7 @@ fn located_lines(alloc: Global, lines: &str, config: &str) -> Result<String, All
 
 /// Appends a line, located.
 fn put_line(alloc: Global, line: &str, config: &str, told: &mut String) -> Result<(), AllocError>
-    ensures { OnOk result ((words : List ℕ) × IsLocated line.now words × (string_bytes told.new ≡ string_bytes told.old ++ ended words)) }
+    ensures { OnOk result ((words : List ℕ) × IsLocated line.now words × (string_bytes told.new ≡ string_bytes told.old ++ ended_lines words)) }
 {
     let words = located_line(alloc, line, config)?;
     told.push_str(words.as_str())?;

@@ -12,7 +12,7 @@ use Rattle.xcp_packet.specs.ByteOrder.{double_bytes, number_in}
 use Rattle.xcp_packet.specs.declared.Order.TheVariants.{Intel}
 use Rattle.xcp_packet.proofs.ByteOrderLemmas.{reads_back}
 use Rattle.xcp_trace.specs.EntrySpelling.{entry_in}
-use Rattle.xcp_trace.specs.ExchangeSpelling.{IsExchangeString, answer_of, exchange_in, request_bytes, request_channel, request_of, request_tag, spelling, time_bytes, time_in, IsSpelt}
+use Rattle.xcp_trace.specs.ExchangeSpelling.{IsExchangeString, answer_spelt, exchange_in, request_bytes, request_channel, request_of, request_tag, spelling, time_bytes, time_in, IsSpelt}
 
 time_again : (time : ℕ) → time < 2 ^ 64 → time_in (time_bytes time) ≡ time
 time_again time h =
@@ -36,7 +36,7 @@ request_again (requests.Time time) h = ap requests.Time (time_again time h)
 request_again (requests.Signals place bytes) h = refl
 
 -- an exchange is read again off the string of its parts
-pub exchange_again : (r : Request) (tag n : ℕ) (bytes : List ℕ) → IsSpelt r → exchange_in (spelling r tag n bytes) ≡ record { request = r; answer = answer_of tag n bytes }
+pub exchange_again : (r : Request) (tag n : ℕ) (bytes : List ℕ) → IsSpelt r → exchange_in (spelling r tag n bytes) ≡ record { request = r; answer = answer_spelt tag n bytes }
 exchange_again r tag n bytes spelt =
     let asked = request_bytes r in
     rw (mod-add-div' (request_channel r) 256, take-append_seam asked bytes, drop-append_seam asked bytes, request_again r spelt) refl

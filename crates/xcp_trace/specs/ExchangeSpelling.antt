@@ -56,8 +56,8 @@ request_of tag channel bytes =
 
 -- The answer of a tag, a number and bytes: of tag 1 the packet of these bytes, and of 10 the block of them, so many to a
 -- packet.
-abbrev pub answer_of : ℕ → ℕ → List ℕ → Answer
-answer_of tag n bytes =
+abbrev pub answer_spelt : ℕ → ℕ → List ℕ → Answer
+answer_spelt tag n bytes =
     if tag == 0 then answers.Silent else (
     if tag == 1 then answers.Packets (bytes ∷ []) else (
     if tag == 2 then answers.Sampled n else (
@@ -83,7 +83,7 @@ pub record IsExchangeString (string : List ℕ) : Type 0 where
 abbrev pub exchange_in : List ℕ → Exchange
 exchange_in string = record {
   request = request_of (slice_index string 0) (slice_index string 1 + slice_index string 2 * 256) (take (slice_index string 5) (drop 6 string));
-  answer = answer_of (slice_index string 3) (slice_index string 4) (drop (slice_index string 5) (drop 6 string));
+  answer = answer_spelt (slice_index string 3) (slice_index string 4) (drop (slice_index string 5) (drop 6 string));
 }
 
 -- the string of a request and the parts of its answer

@@ -3,7 +3,7 @@ ghost use Rattle.std.specs.Prelude.{◌≡◌, ◌≢◌, ◌≤◌, ◌<◌, �
 ghost use Rattle.xcp_slave.specs.Outcomes.{Answer};
 ghost use Rattle.xcp_slave.specs.AnswerInBytes.{answer_in};
 ghost use Rattle.xcp_slave.specs.AskedRequest.{IsShort, request_asked};
-ghost use Rattle.xcp_trace.specs.ExchangeSpelling.{IsExchangeString, IsSpelt, time_bytes, time_in, answer_of, exchange_in, request_bytes, request_channel, request_of, request_tag};
+ghost use Rattle.xcp_trace.specs.ExchangeSpelling.{IsExchangeString, IsSpelt, time_bytes, time_in, answer_spelt, exchange_in, request_bytes, request_channel, request_of, request_tag};
 
 use arrayvec::ArrayVec;
 use xcp_packet::{Order, Packet, Train, Width};
@@ -67,7 +67,7 @@ fn spell_parts<'a>(
     requires short { length told.now ≤ PACKET_BYTES }
     requires width { 9 < kind → (7 ≤ count) × (count ≤ 254) }
     ensures string { exchange_in (result.head ++ result.asked.now ++ result.told.now)
-        ≡ record { request = request_asked request.entry; answer = answer_of kind count told.now } }
+        ≡ record { request = request_asked request.entry; answer = answer_spelt kind count told.now } }
     ensures fits { IsExchangeString (result.head ++ result.asked.now ++ result.told.now) }
     ensures asked { length result.asked.now ≤ PACKET_BYTES }
     ensures told { length result.told.now ≤ PACKET_BYTES }
@@ -143,7 +143,7 @@ fn time_of(bytes: &[u8]) -> u64
 
 /// The tag of an answer that was told beside a lent packet, its number and its bytes.
 fn answer_parts<'a>(told: &Told, packet: &'a Packet) -> (u8, u8, &'a [u8])
-    ensures answer { answer_of result.0 result.1 result.2.now ≡ answer_in told.now packet.now }
+    ensures answer { answer_spelt result.0 result.1 result.2.now ≡ answer_in told.now packet.now }
     ensures short { length result.2.now ≤ 255 }
     ensures width { 9 < result.0 → (7 ≤ result.1) × (result.1 ≤ 254) }
 {
@@ -184,7 +184,7 @@ fn request_of(tag: u8, channel: u16, bytes: &[u8]) -> Request
 fn answer_of(tag: u8, count: u8, bytes: &[u8]) -> Answer
     requires short { length bytes.now ≤ 255 }
     requires width { 9 < tag → (7 ≤ count) × (count ≤ 254) }
-    ensures { result ≡ answer_of tag count bytes.now }
+    ensures { result ≡ answer_spelt tag count bytes.now }
 {
     match tag {
         0 => Answer::Silent,

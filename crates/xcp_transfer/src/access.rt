@@ -69,7 +69,7 @@ fn read_memory(pages: &Pages, address: u32, buffer: &mut [u8]) -> Result<(), Cod
     ensures last { OnOk result (address + length buffer.old ≤ 0xFFFF_FFFF) }
     ensures refused { IfErr result (λ code. (lies_inside pages.now.layout address (length buffer.old) ≡ false) × (code ≡ Code.AccessDenied)) }
 {
-    pages.audit();
+    pages.known();
     pages.read_xcp(address, buffer)?;
     Ok(())
 }
@@ -101,10 +101,10 @@ pub(crate) fn checksum(pages: &Pages, mta: Mta, size: u32) -> Result<(u32, Mta),
     ensures refused { IfErr result (λ code. sum_refusal_at pages.now mta size ≡ Some code) }
 {
     let Mta::Memory(address) = mta else {
-        pages.layout().checksum().check_size(size)?;
+        pages.layout().checksum_kind().check_size(size)?;
         return Err(Code::AccessDenied);
     };
-    pages.audit();
+    pages.known();
     let sum = pages.checksum(address, size)?;
     Ok((sum, Mta::Memory(address + size)))
 }
@@ -163,7 +163,7 @@ pub(crate) fn write_allowed(pages: &mut Pages, address: u32, bytes: &[u8]) -> Mt
     ensures written { pages.new ≡ pages_written pages.old address bytes.now }
     ensures next { result ≡ Mta.Memory (address + length bytes.now) }
 {
-    pages.audit();
+    pages.known();
     let _ = pages.write_xcp(address, bytes);
     Mta::Memory(address + bytes.len() as u32)
 }

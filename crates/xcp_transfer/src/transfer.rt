@@ -75,10 +75,10 @@ impl Transfer {
     }
 
     /// Tells a caller's proof what is true of all transfers. It does nothing.
-    pub fn audit(&self)
+    pub fn known(&self)
         ensures { IsLawful self.now }
     {
-        self.pages.audit();
+        self.pages.known();
     }
 
     /// The pages.

@@ -23,8 +23,8 @@ use Rattle.xcp_scribe.specs.contracts.watched_shelf.WatchedShelf.TheInside as Wa
 use Rattle.xcpd.proofs.lines.Lines.TheSendSync as lines
 use Rattle.xcpd.proofs.teller.Alarm.TheSendSync as alarm
 use Rattle.xcpd.specs.contracts.distant.Counting as Counting
-use Rattle.xcpd.specs.contracts.distant.Handing as Handing
-use Rattle.xcpd.specs.contracts.flash.Place as Place
+use Rattle.xcpd.specs.contracts.distant.HandingOn as HandingOn
+use Rattle.xcpd.specs.contracts.flash.PagesFile as PagesFile
 use Rattle.xcpd.specs.contracts.teller.Teller as Teller
 
 -- a struct, as all its fields may
@@ -77,15 +77,15 @@ teller_crosses κ R r =
     (search (sendable, crosses) depth 20, (search (sendable, crosses) depth 20, (search (sendable, crosses, lines.the_sync) depth 20, (search sendable, (search sendable, tt)))))
 
 -- a file's place
-pub place_crosses : (κ : NamedLft) (R : RattleType) → IsSync R → IsSend (Place.the_row κ R)
+pub place_crosses : (κ : NamedLft) (R : RattleType) → IsSync R → IsSend (PagesFile.the_row κ R)
 place_crosses κ R r =
-    struct_crosses (Place.the_type κ R)
+    struct_crosses (PagesFile.the_type κ R)
     (search (sendable, crosses) depth 20, (search (sendable, crosses) depth 20, (search (sendable, crosses) depth 20, (teller_crosses κ R r, (search (sendable, crosses) depth 20, tt)))))
 
 -- what hands a journal's bytes on
-handing_crosses : (κ : NamedLft) (R : RattleType) → IsSync R → IsSend (Handing.the_row κ R)
-handing_crosses κ R r = struct_crosses (Handing.the_type κ R) (behind.the_field_send, (search (sendable, crosses) depth 20, (search (sendable, crosses, alarm.the_send, alarm.the_sync) depth 20, tt)))
+handing_crosses : (κ : NamedLft) (R : RattleType) → IsSync R → IsSend (HandingOn.the_row κ R)
+handing_crosses κ R r = struct_crosses (HandingOn.the_type κ R) (behind.the_field_send, (search (sendable, crosses) depth 20, (search (sendable, crosses, alarm.the_send, alarm.the_sync) depth 20, tt)))
 
 -- and what counts its calls
 pub counting_crosses : (κ : NamedLft) (R : RattleType) → IsSync R → IsSend (Counting.the_row κ R)
-counting_crosses κ R r = struct_crosses (Counting.the_type κ R) (recording_crosses (Handing.the_row κ R) (handing_crosses κ R r), (search sendable, (search (sendable, crosses) depth 20, tt)))
+counting_crosses κ R r = struct_crosses (Counting.the_type κ R) (recording_crosses (HandingOn.the_row κ R) (handing_crosses κ R r), (search sendable, (search (sendable, crosses) depth 20, tt)))

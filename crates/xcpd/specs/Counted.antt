@@ -5,14 +5,14 @@ use Rattle.xcp_program.specs.declared.server_lines.Counts.{Counts}
 use Rattle.xcp_program.specs.declared.server_lines.Network.{Network}
 use Rattle.xcp_seats.specs.declared.port.Traffic.{Traffic}
 use Rattle.xcp_server.specs.declared.report.Report.{Report}
-use Rattle.xcp_stay.specs.declared.staying.Report as stayed
+use Rattle.xcp_stay.specs.declared.staying.StayReport.{StayReport}
 
 -- of a server that ends with its tools and tasks, no cycles are too late
 abbrev pub counts_at_end : Report → Counts
 counts_at_end r = record { chapters = r.chapters; calls = r.calls; lost = r.lost; late = 0 }
 
 -- of one that stayed, all that is told of it
-abbrev pub counts_at_stop : stayed.Report → Counts
+abbrev pub counts_at_stop : StayReport → Counts
 counts_at_stop r = record { chapters = r.chapters; calls = r.calls; lost = r.lost; late = r.late }
 
 -- the faults that a server tells which ended with its tools and tasks, or the one that kept it from that

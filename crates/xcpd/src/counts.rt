@@ -18,7 +18,7 @@ pub fn counts_at_end(report: &Report) -> Counts
 }
 
 /// Of a server that stayed.
-pub fn counts_at_stop(report: &xcp_stay::Report) -> Counts
+pub fn counts_at_stop(report: &xcp_stay::StayReport) -> Counts
     ensures { result ≡ counts_at_stop report.now }
 {
     Counts {

@@ -3,7 +3,7 @@ ghost use Rattle.std.specs.Prelude.{◌≡◌, ◌<◌, [], ⊤, None, IfOk, Mat
 ghost use Rattle.sha2.specs.Sha256.{sha256};
 ghost use Rattle.xcp_program.specs.Decided.{answers_decided};
 ghost use Rattle.xcp_scribe.specs.Scribing.{HasWritten};
-ghost use Rattle.xcpd.specs.Distance.{calls_with, place_of};
+ghost use Rattle.xcpd.specs.Distance.{calls_with, chapter_place};
 
 use crate::flushed::Flushed;
 use crate::journal::{begin_recording, new_file, print_calls};
@@ -32,13 +32,13 @@ pub type Distant<'a, R> = Option<Counting<'a, R>>;
 
 /// Hands on to a thread what is to be written. It is told where something finds no room there.
 #[derive(Drop)]
-pub struct Handing<'a, R> {
+pub struct HandingOn<'a, R> {
     behind: Behind,
     handle: &'a R,
     alarm: Arc<Alarm>,
 }
 
-impl<R: Wait> Write for Handing<'_, R> {
+impl<R: Wait> Write for HandingOn<'_, R> {
     fn write(&mut self, buf: &[u8]) -> io::Result<usize> {
         if self.behind.put(self.handle, buf) {
             return Ok(buf.len());
@@ -55,7 +55,7 @@ impl<R: Wait> Write for Handing<'_, R> {
 /// A recording whose bytes a thread writes, and how many calls there are with each of its last chapters.
 #[derive(Drop)]
 pub struct Counting<'a, R> {
-    recording: Recording<Handing<'a, R>>,
+    recording: Recording<HandingOn<'a, R>>,
     chapters: u64,
     calls: Box<[u64; KEPT]>,
 }
@@ -86,7 +86,7 @@ impl<R: Wait> Scribe for Counting<'_, R> {
 /// Where the number of calls with this chapter stands.
 fn place_of(chapter: u64) -> usize
     ensures bound { result < KEPT }
-    ensures place { result ≡ place_of chapter }
+    ensures place { result ≡ chapter_place chapter }
 {
     (chapter % KEPT as u64) as usize
 }
@@ -147,14 +147,14 @@ fn begin_writing<'a, R: Threads + Wait + Copy + Send + 'static>(
     handle: &'a R,
     file: Flushed,
     lines: &Arc<Lines>,
-) -> io::Result<(Handing<'a, R>, Arc<Backlog>, Arc<Alarm>)> {
+) -> io::Result<(HandingOn<'a, R>, Arc<Backlog>, Arc<Alarm>)> {
     let alarm = Arc::new(rt.alloc(), Alarm::new(rt.alloc(), lines.clone()?))?;
     let Opened {
         behind,
         end,
         backlog,
     } = open_backlog(rt.alloc(), file)?;
-    let stream = Handing {
+    let stream = HandingOn {
         behind,
         handle,
         alarm: alarm.clone()?,

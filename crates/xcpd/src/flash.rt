@@ -25,12 +25,12 @@ use xcp_program::{
 use xcp_scribe::{Flashing, Shelf};
 
 /// What keeps the pages that tools store, if the words name a file.
-pub type Kept<'a, R> = Option<Flashing<Place<'a, R>>>;
+pub type Kept<'a, R> = Option<Flashing<PagesFile<'a, R>>>;
 
 /// A file that is replaced whole, and the name of the file beside it that is written first. Another file beside it is locked meanwhile, so
 /// that no other program keeps the same pages.
 #[derive(Drop)]
-pub struct Place<'a, R> {
+pub struct PagesFile<'a, R> {
     rt: &'a HostRuntime,
     path: String,
     fresh: String,
@@ -38,7 +38,7 @@ pub struct Place<'a, R> {
     _lock: File,
 }
 
-impl<R: Wait> Shelf for Place<'_, R> {
+impl<R: Wait> Shelf for PagesFile<'_, R> {
     ghost use Rattle.std.specs.Prelude.{⊤};
 
     ghost holds = { λ _ _. ⊤ };
@@ -48,7 +48,7 @@ impl<R: Wait> Shelf for Place<'_, R> {
         if put_whole(self.rt, &self.path, &self.fresh, file).is_ok() {
             return true;
         }
-        self.teller.tell(Fault::Flash(2));
+        self.teller.report(Fault::Flash(2));
         false
     }
 }
@@ -116,7 +116,7 @@ fn place_at<'a, R: Wait>(
     rt: &'a HostRuntime,
     path: &str,
     teller: Teller<'a, R>,
-) -> Result<Place<'a, R>, Fault> {
+) -> Result<PagesFile<'a, R>, Fault> {
     let alloc = rt.alloc();
     let (Ok(name), Ok(fresh), Ok(lock)) = (
         String::from_str(alloc, path),
@@ -130,7 +130,7 @@ fn place_at<'a, R: Wait>(
         return Err(Fault::Flash(2));
     }
     let _ = fs::remove_file(rt, fresh.as_str());
-    Ok(Place {
+    Ok(PagesFile {
         rt,
         path: name,
         fresh,

@@ -30,7 +30,7 @@ impl<R: Wait> Write for Telling<'_, R> {
     fn write(&mut self, buf: &[u8]) -> io::Result<usize> {
         let written = self.file.write(buf);
         if written.is_err() {
-            self.teller.tell(Fault::Journal(2));
+            self.teller.report(Fault::Journal(2));
         }
         written
     }

@@ -52,7 +52,7 @@ impl Waiting {
 
 impl Lines {
     /// One more line.
-    pub fn tell(&self, rt: &impl Wait, line: String) {
+    pub fn add(&self, rt: &impl Wait, line: String) {
         self.waiting.lock(rt).take_in(line);
         self.changed.notify_all();
     }
@@ -60,7 +60,7 @@ impl Lines {
     /// The line of a fault, by its number, where there is memory for it.
     pub fn tell_fault(&self, rt: &impl Wait, alloc: Global, fault: Fault) {
         if let Ok(line) = self.fault_line(alloc, fault) {
-            self.tell(rt, line);
+            self.add(rt, line);
         }
     }
 

@@ -29,37 +29,37 @@ pub struct Log<'a, R> {
 
 impl<R: Wait> Log<'_, R> {
     /// One line, where there is memory for it.
-    fn tell(&self, line: Result<String, AllocError>) {
+    fn add(&self, line: Result<String, AllocError>) {
         if let Ok(line) = line {
-            self.lines.tell(self.handle, line);
+            self.lines.add(self.handle, line);
         }
     }
 }
 
 impl<R: Wait> Watcher for Log<'_, R> {
     fn came(&self, seat: u8, tool: SocketAddr) {
-        self.tell(format!(in self.rt.alloc(); "tool {seat}: {tool} connected"));
+        self.add(format!(in self.rt.alloc(); "tool {seat}: {tool} connected"));
     }
 
     fn idle(&self, seat: u8, tool: SocketAddr) {
         let seconds = self.idle;
-        self.tell(format!(in self.rt.alloc(); "tool {seat}: {tool} sent nothing for {seconds} s"));
+        self.add(format!(in self.rt.alloc(); "tool {seat}: {tool} sent nothing for {seconds} s"));
     }
 
     fn gone(&self, seat: u8, tool: SocketAddr, end: Result<Served, ServeError>) {
-        self.tell(end_line(self.rt.alloc(), self.lines, seat, tool, end));
+        self.add(end_line(self.rt.alloc(), self.lines, seat, tool, end));
     }
 
     fn turned_away(&self, tool: SocketAddr) {
-        self.tell(format!(in self.rt.alloc(); "{tool} was turned away: no seat is free"));
+        self.add(format!(in self.rt.alloc(); "{tool} was turned away: no seat is free"));
     }
 
     fn lost(&self, events: u64) {
-        self.tell(format!(in self.rt.alloc(); "lost {events}"));
+        self.add(format!(in self.rt.alloc(); "lost {events}"));
     }
 
     fn refused(&self) {
-        self.tell(format!(in self.rt.alloc(); "no tool could be accepted"));
+        self.add(format!(in self.rt.alloc(); "no tool could be accepted"));
         thread::sleep(self.rt, Duration::from_millis(PAUSE));
     }
 }

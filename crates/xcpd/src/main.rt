@@ -37,7 +37,7 @@ use crate::describing::describe_or_check;
 use crate::flash::{Kept, begin_with, fault_of_keeping, stored_in};
 use crate::journal::{Written, journal_at, print_recorded};
 use crate::named::Named;
-use crate::stack::{deepen, has_room};
+use crate::stack::{deepen, has_stack_room};
 use crate::stay::stay_by;
 use crate::teller::Teller;
 use crate::telling::{About, end_telling};
@@ -163,7 +163,7 @@ fn print_end(rt: &HostRuntime, told: Result<Report, Fault>) -> (Result<Option<Fa
 }
 
 /// Tells why the program is asked nothing.
-fn tell(rt: &HostRuntime, unasked: &Unasked) -> ExitCode {
+fn tell_unasked(rt: &HostRuntime, unasked: &Unasked) -> ExitCode {
     let status = unasked.status();
     if status == 0 {
         return end(rt, fault_of_print(print!(rt; "{unasked}").is_ok()));
@@ -409,13 +409,13 @@ fn obey_words<R: Threads + Wait + Clock + Copy + Send + Sync + 'static>(
     };
     match asked(rt.alloc(), words) {
         Ok(options) => obey(rt, handle, options, plain),
-        Err(unasked) => tell(rt, &unasked),
+        Err(unasked) => tell_unasked(rt, &unasked),
     }
 }
 
 /// The system gives the first thread some stack before it begins. Where there is no room for more, nothing that needs more begins.
 fn main(rt: HostRuntime) -> ExitCode {
-    if has_room(rt.alloc()) {
+    if has_stack_room(rt.alloc()) {
         obey_words(&rt, &rt)
     } else {
         end(&rt, Some(Fault::Memory))

@@ -15,14 +15,14 @@ fn has_free(alloc: Global, bytes: usize) -> bool {
 }
 
 /// Whether the address space has room for the stack that anything here takes.
-pub fn has_room(alloc: Global) -> bool {
+pub fn has_stack_room(alloc: Global) -> bool {
     has_free(alloc, ROOM)
 }
 
 /// Has the system give the first thread as deep a stack as serving takes, so that it needn't grow when tools are there: where it can't, the
 /// system ends a program by a signal. `Memory` where the address space has no room for it. The word is any.
 pub fn deepen(alloc: Global, word: &str) -> Result<(), Fault> {
-    // More than `has_room` has asked for: what the C library has had from the system once, and given back, it would keep now.
+    // More than `has_stack_room` has asked for: what the C library has had from the system once, and given back, it would keep now.
     if !has_free(alloc, ROOM + 64 * 1024) || touch(word) > 1 {
         return Err(Fault::Memory);
     }

@@ -28,7 +28,7 @@ use xcp_memory::Layout;
 use xcp_program::{Fault, Staying, fault_at_stop, periods_of, status_at_end};
 use xcp_scribe::Both;
 use xcp_seats::{Access, Halt, Times};
-use xcp_stay::{Plan, Report, StayError, stay, timekeepers, wait_for_stop};
+use xcp_stay::{Plan, StayError, StayReport, stay, timekeepers, wait_for_stop};
 
 /// The plan of a server that is asked to stay so, on a slave of this layout.
 fn plan_of(staying: Staying, layout: &Layout) -> Plan
@@ -80,7 +80,7 @@ pub fn stay_by<R: Threads + Wait + Clock + Copy + Send + Sync + 'static>(
     let fault = ended.err();
     if let Some(fault) = fault {
         if let Ok(line) = line_about(rt, fault, about) {
-            lines.tell(handle, line);
+            lines.add(handle, line);
         }
     }
     lines.end(handle);
@@ -141,7 +141,7 @@ fn stay_with<R: Threads + Wait + Clock + Copy + Send + Sync + 'static>(
         &halt,
         &log,
     ) {
-        Ok((told, mut scribe)) => tell(rt, handle, &told, &mut scribe, &backlog, &access),
+        Ok((told, mut scribe)) => tell_end(rt, handle, &told, &mut scribe, &backlog, &access),
         Err(error) => {
             let _ = finish_writing(handle, &backlog);
             Err(fault_of_stay(error))
@@ -150,10 +150,10 @@ fn stay_with<R: Threads + Wait + Clock + Copy + Send + Sync + 'static>(
 }
 
 /// Prints what is told of a server that stayed, how many of its calls were written down, and what there was of datagrams.
-fn tell<R: Wait + Clock>(
+fn tell_end<R: Wait + Clock>(
     rt: &HostRuntime,
     handle: &R,
-    told: &Report,
+    told: &StayReport,
     scribe: &mut Both<Distant<'_, R>, Kept<'_, R>>,
     backlog: &Option<Arc<Backlog>>,
     access: &Access,

@@ -36,7 +36,7 @@ impl<'a, R: Wait> Teller<'a, R> {
     }
 
     /// Tells the first fault, and none behind it.
-    pub fn tell(&mut self, fault: Fault) {
+    pub fn report(&mut self, fault: Fault) {
         if self.is_told {
             return;
         }

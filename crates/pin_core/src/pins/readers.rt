@@ -2,7 +2,7 @@
 ghost use Rattle.std.specs.Prelude.{◌≡◌, ◌≢◌, ℕ, ◌<◌, IfOk, IfErr, IfSome, IfNone};
 ghost use Rattle.pin_core.specs.declared.events.Event.TheVariants.{Look, Unpin, Pin, Read};
 ghost use Rattle.pin_core.specs.State.{reader, width};
-ghost use Rattle.pin_core.specs.Steps.{Steps, Refuses};
+ghost use Rattle.pin_core.specs.Steps.{Steps, RefusesEvent};
 
 use crate::READERS;
 use crate::events::{Seen, StepError};
@@ -13,7 +13,7 @@ impl Core {
         ensures done { IfOk result
             (λ seen. Steps (width self.old) self.old (Look r) seen self.new) }
         ensures refused { IfErr result
-            (λ error. Refuses (width self.old) self.old (Look r) error × (self.new ≡ self.old)) }
+            (λ error. RefusesEvent (width self.old) self.old (Look r) error × (self.new ≡ self.old)) }
     {
         let at = usize::from(r);
         if at >= READERS || self.readers[at].is_gone() {
@@ -27,7 +27,7 @@ impl Core {
     pub(super) fn pin(&mut self, r: u8) -> Result<Seen, StepError>
         ensures done { IfOk result (λ seen. Steps (width self.old) self.old (Pin r) seen self.new) }
         ensures refused { IfErr result
-            (λ error. Refuses (width self.old) self.old (Pin r) error × (self.new ≡ self.old)) }
+            (λ error. RefusesEvent (width self.old) self.old (Pin r) error × (self.new ≡ self.old)) }
     {
         let at = usize::from(r);
         if at >= READERS || self.readers[at].is_gone() || self.readers[at].held().is_some() {
@@ -43,7 +43,7 @@ impl Core {
         ensures done { IfOk result
             (λ seen. Steps (width self.old) self.old (Unpin r last) seen self.new) }
         ensures refused { IfErr result
-            (λ error. Refuses (width self.old) self.old (Unpin r last) error × (self.new ≡ self.old)) }
+            (λ error. RefusesEvent (width self.old) self.old (Unpin r last) error × (self.new ≡ self.old)) }
     {
         let Some(b) = self.held_by(r) else {
             return Err(StepError::NotEnabled);
@@ -61,7 +61,7 @@ impl Core {
         ensures done { IfOk result
             (λ seen. Steps (width self.now) self.now (Read r k) seen self.now) }
         ensures refused { IfErr result
-            (λ error. Refuses (width self.now) self.now (Read r k) error) }
+            (λ error. RefusesEvent (width self.now) self.now (Read r k) error) }
     {
         let Some(b) = self.held_by(r) else {
             return Err(StepError::NotEnabled);

@@ -1,7 +1,7 @@
 // One event of anybody.
 ghost use Rattle.std.specs.Prelude.{◌≡◌, ◌↔◌, IfOk, IfErr, OnErr, IsErrOf};
 ghost use Rattle.pin_core.specs.State.{width};
-ghost use Rattle.pin_core.specs.Steps.{IsEnabled, Steps, Refuses};
+ghost use Rattle.pin_core.specs.Steps.{IsEnabled, Steps, RefusesEvent};
 ghost use Rattle.pin_core.specs.declared.events.StepError.TheVariants.{NotEnabled};
 
 use crate::events::{Event, Seen, StepError};
@@ -14,7 +14,7 @@ impl Core {
     /// alone, which copies the image into the list of publications. Both leave the core as it was.
     pub fn step(&mut self, event: Event) -> Result<Seen, StepError>
         ensures done { IfOk result (λ seen. Steps (width self.old) self.old event seen self.new) }
-        ensures refused { IfErr result (λ error. Refuses (width self.old) self.old event error) }
+        ensures refused { IfErr result (λ error. RefusesEvent (width self.old) self.old event error) }
         ensures not_enabled { IsErrOf result NotEnabled ↔ (¬ IsEnabled (width self.old) self.old event) }
         ensures unchanged { OnErr result (self.new ≡ self.old) }
         ensures same_width { width self.new ≡ width self.old }

@@ -2,7 +2,7 @@
 ghost use Rattle.std.specs.Prelude.{◌≡◌, IfOk, IfErr};
 ghost use Rattle.pin_core.specs.declared.events.Event.TheVariants.{Scan, Reset, Write, Publish};
 ghost use Rattle.pin_core.specs.State.{width};
-ghost use Rattle.pin_core.specs.Steps.{Steps, Refuses};
+ghost use Rattle.pin_core.specs.Steps.{Steps, RefusesEvent};
 
 use crate::BUFFERS;
 use crate::events::{Seen, StepError};
@@ -14,7 +14,7 @@ impl Core {
         ensures done { IfOk result
             (λ seen. Steps (width self.old) self.old (Scan b) seen self.new) }
         ensures refused { IfErr result
-            (λ error. Refuses (width self.old) self.old (Scan b) error × (self.new ≡ self.old)) }
+            (λ error. RefusesEvent (width self.old) self.old (Scan b) error × (self.new ≡ self.old)) }
     {
         let at = usize::from(b);
         if at >= BUFFERS || b == self.index || self.writer.building.is_some() {
@@ -29,7 +29,7 @@ impl Core {
         ensures done { IfOk result
             (λ seen. Steps (width self.old) self.old (Reset b) seen self.new) }
         ensures refused { IfErr result
-            (λ error. Refuses (width self.old) self.old (Reset b) error × (self.new ≡ self.old)) }
+            (λ error. RefusesEvent (width self.old) self.old (Reset b) error × (self.new ≡ self.old)) }
     {
         if self.writer.quiet != Some(b) {
             return Err(StepError::NotEnabled);
@@ -46,7 +46,7 @@ impl Core {
         ensures done { IfOk result
             (λ seen. Steps (width self.old) self.old (Write k word) seen self.new) }
         ensures refused { IfErr result
-            (λ error. Refuses (width self.old) self.old (Write k word) error × (self.new ≡ self.old)) }
+            (λ error. RefusesEvent (width self.old) self.old (Write k word) error × (self.new ≡ self.old)) }
     {
         let Some(b) = self.writer.building else {
             return Err(StepError::NotEnabled);
@@ -63,7 +63,7 @@ impl Core {
     pub(super) fn publish(&mut self) -> Result<Seen, StepError>
         ensures done { IfOk result (λ seen. Steps (width self.old) self.old Publish seen self.new) }
         ensures refused { IfErr result
-            (λ error. Refuses (width self.old) self.old Publish error × (self.new ≡ self.old)) }
+            (λ error. RefusesEvent (width self.old) self.old Publish error × (self.new ≡ self.old)) }
     {
         let Some(b) = self.writer.building else {
             return Err(StepError::NotEnabled);

@@ -7,7 +7,7 @@ use Rattle.xcp_framing.proofs.KnownBytesLemmas.{appends_more, appends_none}
 use Rattle.xcp_trace.specs.declared.Entry.{Entry}
 use Rattle.xcp_record.specs.declared.Roster.{Roster}
 use Rattle.xcp_audit.specs.declared.printer.Trouble.{Trouble}
-use Rattle.xcp_audit.specs.CallLine.{line_of, lines_of}
+use Rattle.xcp_audit.specs.CallLine.{line_of_call, lines_of_calls}
 use Rattle.xcp_audit.specs.Printing.{Prints, PrintsFrom, Stand, failures_after}
 
 -- nothing is printed
@@ -47,5 +47,5 @@ pub prints_more : (a b c : Stand) (xs ys : List ℕ) → Prints a b xs → Print
 prints_more a b c xs ys p q = from_more a.trouble b.trouble c.trouble a b c xs ys p q
 
 -- and the lines of calls
-pub lines_more : (a b c : Stand) (roster : Option Roster) (xs ys : List Entry) → Prints a b (lines_of roster xs) → Prints b c (lines_of roster ys) → Prints a c (lines_of roster (xs ++ ys))
-lines_more a b c roster xs ys p q = subst (Prints a c) (sym (flat_map-append (line_of roster) xs ys)) (prints_more a b c (lines_of roster xs) (lines_of roster ys) p q)
+pub lines_more : (a b c : Stand) (roster : Option Roster) (xs ys : List Entry) → Prints a b (lines_of_calls roster xs) → Prints b c (lines_of_calls roster ys) → Prints a c (lines_of_calls roster (xs ++ ys))
+lines_more a b c roster xs ys p q = subst (Prints a c) (sym (flat_map-append (line_of_call roster) xs ys)) (prints_more a b c (lines_of_calls roster xs) (lines_of_calls roster ys) p q)

@@ -2,7 +2,7 @@
 -- the last may be shorter. The marks of a block stand side by side, one for each of the 8 buffers.
 use Rattle.std.specs.Prelude.{◌≡◌, ◌≢◌, ◌⊎◌, ℕ, ◌+◌, ◌-◌, ◌*◌, ◌/◌, ◌<◌, ◌≤◌, Bool, true, false, List, [], length, slice_index, slice_index_or}
 use Rattle.std.specs.Int.{div_ceil}
-use Rattle.xcp_bank.specs.private.ImageWords.{word_of}
+use Rattle.xcp_bank.specs.private.ImageWords.{word_in_image}
 
 -- how many blocks an image of so many words has
 abbrev pub blocks_in : ℕ → ℕ
@@ -19,7 +19,7 @@ pub record Sized (W : ℕ) (all : List (List ℕ)) : Type 0 where
 
 -- Where a block isn't marked for a buffer, its words stand there as in the image, which has n words.
 abbrev pub Agrees : ℕ → List Bool → List (List ℕ) → List ℕ → Type 0
-Agrees n marks all image = (b k : ℕ) → b < 8 → k < n → mark_of marks (k / 64) b ≡ false → slice_index (slice_index_or all b []) k ≡ word_of image k
+Agrees n marks all image = (b k : ℕ) → b < 8 → k < n → mark_of marks (k / 64) b ≡ false → slice_index (slice_index_or all b []) k ≡ word_in_image image k
 
 -- The marks are right for buffers of W words, of which all but the last are an image's: by the words that the writer knows of them,
 -- and by the image.

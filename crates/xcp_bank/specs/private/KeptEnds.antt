@@ -3,7 +3,7 @@ use Rattle.std.specs.Prelude.{◌≡◌, ℕ, ◌<◌, ◌%◌, Bool, false, Lis
 use Rattle.atomic_table.specs.Seated.{TableId}
 use Rattle.atomic_table.specs.declared.shared.Seat.{Seat}
 use Rattle.xcp_bank.specs.SeatKnowledge.{Known}
-use Rattle.xcp_bank.specs.private.ReaderSteps.{Follows}
+use Rattle.xcp_bank.specs.private.ReaderSteps.{FollowsHistory}
 use Rattle.xcp_bank.specs.private.SeatSteps.{IsReaderSeat, IsWriterSeat, Rests, buffer_held}
 use Rattle.xcp_bank.specs.private.BlockMarks.{IsMarked}
 use Rattle.xcp_bank.specs.BankEnds.{writer_end, newest}
@@ -14,7 +14,7 @@ pub record ReaderKept (bank : TableId) (held : Option ℕ) (seat : Option (Seat 
   pub token : Seat (Unit {0}) Known
   pub is : seat ≡ Some token
   pub sits : IsReaderSeat token bank (reader_in seat).0 (reader_in seat).1
-  pub follows : Follows bank.slots (reader_in seat).0 (reader_in seat).1
+  pub follows : FollowsHistory bank.slots (reader_in seat).0 (reader_in seat).1
   pub here : (reader_in seat).1.pins.gone ≡ false
   pub held_is : held ≡ buffer_held (reader_in seat).1
   pub low : (b : ℕ) → held ≡ Some b → b < 8

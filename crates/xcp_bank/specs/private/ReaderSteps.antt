@@ -35,7 +35,7 @@ pub record Finds (r : ℕ) (x : Reading) (n index : ℕ) (list : List (List ℕ)
   pub reaches : Reaches r x before
 
 -- The history that the reader has is a run to a state in which it holds what it says, and is gone or not.
-pub record Follows (W r : ℕ) (y : Reading) : Type 0 where
+pub record FollowsHistory (W r : ℕ) (y : Reading) : Type 0 where
   pub state : PinState
   pub ran : Ran W y.history state
   pub held : (reader state r).held ≡ y.pins.held
@@ -106,7 +106,7 @@ pub record GivesUp (W : ℕ) (last : Bool) (r : ℕ) (x y : Reading) : Type 0 wh
   pub before : List Deed
   pub reaches : Reaches r x before
   pub is : y ≡ reading_after_unpin r last before x
-  pub follows : Follows W r y
+  pub follows : FollowsHistory W r y
 
 abbrev pub Unpinned : ℕ → Bool → ℕ → Reading → ℕ → Reading → Type 0
 Unpinned W last r x n y = GivesUp W last r x y
@@ -129,7 +129,7 @@ pub record ReadAt (W i : ℕ) (r : ℕ) (x : Reading) (n : ℕ) (y : Reading) : 
   pub place : (b p : ℕ) → x.pins.held ≡ Some (b, p) → i ≡ 9 + (b * W + k)
   pub reaches : Reaches r x before
   pub is : y ≡ reading_after_read r k n before x
-  pub follows : Follows W r y
+  pub follows : FollowsHistory W r y
   pub value : (b p k : ℕ) → x.pins.held ≡ Some (b, p) → i ≡ 9 + (b * W + k) → k < W → n ≡ slice_index (slice_index_or x.list p []) k
   pub numbered : (b p : ℕ) → x.pins.held ≡ Some (b, p) → IsNumbered W p (slice_index_or x.list p [])
   pub pasts : AllBegin x.past x.list

@@ -4,11 +4,11 @@ use Rattle.atomic_table.specs.Seated.{TableId}
 use Rattle.atomic_table.specs.declared.shared.Seat.{Seat}
 use Rattle.xcp_bank.specs.declared.taken.Taken.{Taken}
 use Rattle.xcp_bank.specs.declared.taken.Taken.TheVariants.{Same, Newer}
-use Rattle.xcp_bank.specs.PinHistory.{Deed, Grows, Does, Ends, AllScans, looked_at, pinned_at, given_up, has_reset, has_published, reads_of, writes_of}
+use Rattle.xcp_bank.specs.PinHistory.{Deed, Grows, Does, EndsInDeed, AllScans, looked_at, pinned_at, given_up, has_reset, has_published, reads_of, writes_of}
 use Rattle.xcp_bank.specs.HeldBufferCount.{others, scanned_buffer, scan_of, unquiet}
-use Rattle.xcp_bank.specs.private.ReaderSteps.{Reaches, Looked, Pinned, UpToDate, Follows, reading_after_read}
+use Rattle.xcp_bank.specs.private.ReaderSteps.{Reaches, Looked, Pinned, UpToDate, FollowsHistory, reading_after_read}
 use Rattle.xcp_bank.specs.TableRule.{IsNumbered}
-use Rattle.xcp_bank.specs.Images.{image_of}
+use Rattle.xcp_bank.specs.Images.{image_in_words}
 use Rattle.xcp_bank.specs.private.BlockMarks.{Sized}
 use Rattle.xcp_bank.specs.private.WriterSteps.{WriterUpToDate}
 use mathlib.Core.List.{IsPrefix}
@@ -22,8 +22,8 @@ pub record IsWide (bank : TableId) : Type 0 where
   pub few : bank.slots ≤ 131073
 
 -- how many bytes an image in it has
-abbrev pub bytes_in : TableId → ℕ
-bytes_in bank = 8 * (bank.slots - 1)
+abbrev pub bytes_of_table : TableId → ℕ
+bytes_of_table bank = 8 * (bank.slots - 1)
 
 -- The seat is of this bank, and stands for the reader r, which is as x says.
 pub record IsReaderSeat (seat : Seat (Unit {0}) Known) (bank : TableId) (r : ℕ) (x : Reading) : Type 0 where
@@ -72,7 +72,7 @@ pub record WordRead (k p word W : ℕ) (r : ℕ) (x y : Reading) : Type 0 where
   pub before : List Deed
   pub reaches : Reaches r x before
   pub is : y ≡ reading_after_read r k word before x
-  pub follows : Follows W r y
+  pub follows : FollowsHistory W r y
   pub value : word ≡ slice_index (slice_index_or x.list p []) k
   pub numbered : IsNumbered W p (slice_index_or x.list p [])
   pub pasts : AllBegin x.past x.list
@@ -82,7 +82,7 @@ abbrev pub WordReadAt : ℕ → ℕ → ℕ → ℕ → ℕ → Reading → Read
 WordReadAt buffer k word W r x y = (p : ℕ) → x.pins.held ≡ Some (buffer, p) → WordRead k p word W r x y
 
 -- What a reader knows after it has acquired: it holds the last of the publications that it has seen then.
-pub record Acquired (taken : Taken) (buffer W : ℕ) (r : ℕ) (x y : Reading) : Type 0 where
+pub record SeatAcquired (taken : Taken) (buffer W : ℕ) (r : ℕ) (x y : Reading) : Type 0 where
   pub low : buffer < 8
   pub some : 0 < length y.list
   pub begins : IsPrefix x.list y.list
@@ -97,10 +97,10 @@ pub record Acquired (taken : Taken) (buffer W : ℕ) (r : ℕ) (x y : Reading) :
   pub up_to_date : UpToDate W r y
   pub deeds : List Deed
   pub did : Does (suc r) x.history x.pending y.history y.pending deeds
-  pub once : taken ≡ Same → (deeds ≡ looked_at r buffer ∷ []) × Ends y.history (looked_at r buffer)
+  pub once : taken ≡ Same → (deeds ≡ looked_at r buffer ∷ []) × EndsInDeed y.history (looked_at r buffer)
   pub first : x.pins.held ≡ None → deeds ≡ pinned_at r buffer ∷ []
   pub other : taken ≡ Newer → (b p : ℕ) → x.pins.held ≡ Some (b, p) → (i : ℕ) × (i ≢ b) × (deeds ≡ looked_at r i ∷ given_up r false ∷ pinned_at r buffer ∷ [])
-  pub last : taken ≡ Newer → Ends y.history (pinned_at r buffer)
+  pub last : taken ≡ Newer → EndsInDeed y.history (pinned_at r buffer)
   pub same : taken ≡ Same → x.pins.held ≡ Some (buffer, length y.list - 1)
   pub newer : taken ≡ Newer → (b p : ℕ) → x.pins.held ≡ Some (b, p) → p + 1 < length y.list
 
@@ -111,7 +111,7 @@ pub record HasRead (k n p W : ℕ) (r : ℕ) (x y : Reading) : Type 0 where
   pub list : y.list ≡ x.list
   pub past : y.past ≡ x.past
   pub heard_is : y.heard ≡ x.heard
-  pub follows : Follows W r x → Follows W r y
+  pub follows : FollowsHistory W r x → FollowsHistory W r y
   pub numbered : 0 < n → IsNumbered W p (slice_index_or x.list p [])
   pub pasts : 0 < n → AllBegin x.past x.list
   pub heard : 0 < n → IsPrefix x.heard y.history
@@ -122,7 +122,7 @@ pub record HasRead (k n p W : ℕ) (r : ℕ) (x y : Reading) : Type 0 where
 pub record ReadsOn (bank : TableId) (buffer at k n : ℕ) (old new : Seat (Unit {0}) Known) (before after : List ℕ) : Type 0 where
   pub size : length after ≡ length before
   pub elsewhere : (j : ℕ) → ((at + j) / 8 < k) ⊎ (k + n ≤ (at + j) / 8) → slice_index after j ≡ slice_index before j
-  pub there : (r : ℕ) (y : Reading) (p : ℕ) → IsReaderSeat old bank r y → y.pins.held ≡ Some (buffer, p) → (j : ℕ) → j < length before → k ≤ (at + j) / 8 → (at + j) / 8 < k + n → slice_index after j ≡ slice_index (image_of (slice_index_or y.list p [])) (at + j)
+  pub there : (r : ℕ) (y : Reading) (p : ℕ) → IsReaderSeat old bank r y → y.pins.held ≡ Some (buffer, p) → (j : ℕ) → j < length before → k ≤ (at + j) / 8 → (at + j) / 8 < k + n → slice_index after j ≡ slice_index (image_in_words (slice_index_or y.list p [])) (at + j)
   pub reads : (r : ℕ) (x y : Reading) (p from m : ℕ) → IsReaderSeat old bank r y → y.pins.held ≡ Some (buffer, p) → HasRead from m p bank.slots r x y → from + m ≡ k → (z : Reading) × IsReaderSeat new bank r z × HasRead from (m + n) p bank.slots r x z
 
 -- Scans, up to the buffer `next`, of which none has found the idle buffer.
@@ -151,7 +151,7 @@ pub record FoundQuiet (b : ℕ) (w u : Writing) : Type 0 where
   pub most : length scans ≤ 7
 
 -- A Scan of each buffer below `next` but the current one, of which `held` weren't quiet. The idle one was.
-pub record Counted (next held W : ℕ) (w u : Writing) : Type 0 where
+pub record HeldCounted (next held W : ℕ) (w u : Writing) : Type 0 where
   pub quiet : Option ℕ
   pub history : List Deed
   pub is : u ≡ scanned_to quiet history w
@@ -206,5 +206,5 @@ pub record Publishes (words : List ℕ) (W : ℕ) (w u : Writing) : Type 0 where
   pub only : AllScans scans
   pub most : length scans ≤ 7
   pub grows : Grows 0 w.history u.history (scans ++ has_reset buffer ∷ (writes_of words (length words) ++ has_published ∷ []))
-  pub last : Ends u.history has_published
+  pub last : EndsInDeed u.history has_published
   pub up_to_date : WriterUpToDate W u

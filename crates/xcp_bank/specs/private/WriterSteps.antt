@@ -89,7 +89,7 @@ writing_after_publish b count idle before w = record {
 }
 
 -- Publish of buffer b: the number found tells the pins that the old current buffer got, and some buffer is idle then.
-pub record Published (W b : ℕ) (w : Writing) (n : ℕ) (u : Writing) : Type 0 where
+pub record SeatPublished (W b : ℕ) (w : Writing) (n : ℕ) (u : Writing) : Type 0 where
   pub count : ℕ
   pub idle : ℕ
   pub before : List Deed

@@ -1,7 +1,7 @@
 //! The steps of the writer, each on one word of the table.
 ghost use Rattle.std.specs.Prelude.{◌≡◌, ◌≢◌, ℕ, ◌+◌, ◌-◌, ◌*◌, ◌%◌, ◌<◌, ◌≤◌, [], length, slice_index, slice_index_or, Some, None};
 ghost use Rattle.xcp_bank.specs.SeatKnowledge.{Writing};
-ghost use Rattle.xcp_bank.specs.private.WriterSteps.{Scanned, WasReset, Written, WrittenAgain, Published};
+ghost use Rattle.xcp_bank.specs.private.WriterSteps.{Scanned, WasReset, Written, WrittenAgain, SeatPublished};
 ghost use Rattle.xcp_bank.specs.private.SeatSteps.{IsWriterSeat, WriterMoves};
 
 use super::rule::{Store, View};
@@ -54,9 +54,9 @@ struct PublishPlay;
 
 impl Play<(), View> for PublishPlay {
     ghost use Rattle.std.specs.Prelude.{◌/◌};
-    ghost use Rattle.xcp_bank.specs.private.WriterSteps.{Published, writer_plays};
+    ghost use Rattle.xcp_bank.specs.private.WriterSteps.{SeatPublished, writer_plays};
 
-    ghost then = { λ st. writer_plays (Published st.slots (st.first / 4294967296)) st };
+    ghost then = { λ st. writer_plays (SeatPublished st.slots (st.first / 4294967296)) st };
 }
 
 /// Scan: how many pins of a buffer were given back.
@@ -134,7 +134,7 @@ pub(super) fn keep_words(
 pub(super) fn swap_in(store: &Store, seat: &mut Seat<(), View>, buffer: usize) -> u64
     requires buffer { buffer < BUFFERS }
     requires seat { (w : Writing) × IsWriterSeat seat.old store.now.table_id w × (w.pins.building ≡ Some buffer) × (length w.pins.written ≡ store.now.table_id.slots) × (slice_index w.pins.written (store.now.table_id.slots - 1) ≡ length w.pins.publications % 18446744073709551616) × (w.current < BUFFERS) }
-    ensures { WriterMoves (λ W w u. (n : ℕ) × (p : Published W buffer w n u) × (result ≡ p.count)) seat.old seat.new store.now.table_id }
+    ensures { WriterMoves (λ W w u. (n : ℕ) × (p : SeatPublished W buffer w n u) × (result ≡ p.count)) seat.old seat.new store.now.table_id }
 {
     let found = store.swap::<PublishPlay>(seat, 0, head(buffer as u8, 0));
     let (_old, pins) = parts(found);

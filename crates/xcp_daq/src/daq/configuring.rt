@@ -3,7 +3,7 @@ ghost use Rattle.std.specs.Prelude.{◌≡◌, ◌<◌, ◌≤◌, length, map, 
 ghost use Rattle.xcp_memory.specs.FirstRefusal.{Checks};
 ghost use Rattle.xcp_daq.specs.DaqLists.{list_at, with_list};
 ghost use Rattle.xcp_daq.specs.DaqInvariant.{IsPointer, IsPointerOf};
-ghost use Rattle.xcp_daq.specs.Configuring.{clear_daq_list_refusal, clear_daq_list_after, set_daq_ptr_refusal, set_daq_ptr_after, write_daq_refusal, write_daq_after, written_at, moved_on, read_daq_refusal, read_daq_reply, read_daq_after, is_mode, stamp_asked, set_daq_list_mode_refusal, set_daq_list_mode_after};
+ghost use Rattle.xcp_daq.specs.Configuring.{clear_daq_list_refusal, clear_daq_list_after, set_daq_ptr_refusal, set_daq_ptr_after, write_daq_refusal, write_daq_after, entry_written, moved_on, read_daq_refusal, read_daq_reply, read_daq_after, is_mode, stamp_asked, set_daq_list_mode_refusal, set_daq_list_mode_after};
 ghost use Rattle.xcp_daq.specs.private.ElementRefusal.{element_refusal};
 
 use super::Daq;
@@ -143,7 +143,7 @@ impl Daq {
         ensures ok { IfOk result (λ p. (write_daq_refusal layout.now offset size extension address self.now ≡ None) × (self.now.pointer ≡ Some p) × ((list_at self.now p.list).running ≡ false) × (1 ≤ size) × (size ≤ 254)) }
         ensures refused { IfErr result (λ code. write_daq_refusal layout.now offset size extension address self.now ≡ Some code) }
     {
-        self.audit();
+        self.known();
         let element = DaqElement {
             offset,
             size,
@@ -213,7 +213,7 @@ impl Daq {
         requires { i < length self.old.lists }
         ensures { self.new ≡ clear_daq_list_after i self.old }
     {
-        self.audit();
+        self.known();
         let mode = Mode {
             running: false,
             selected: false,
@@ -239,9 +239,9 @@ impl Daq {
         requires still { (list_at self.old pointer.list).running ≡ false }
         requires some { 1 ≤ size }
         requires short { size ≤ 254 }
-        ensures { self.new ≡ written_at (Some pointer) (record { size = size; address = address }) self.old }
+        ensures { self.new ≡ entry_written (Some pointer) (record { size = size; address = address }) self.old }
     {
-        self.audit();
+        self.known();
         let next = self.behind(pointer);
         self.odts.write(
             pointer.list as usize,
@@ -256,7 +256,7 @@ impl Daq {
         requires { self.now.pointer ≡ Some pointer }
         ensures { result ≡ read_daq_reply self.now }
     {
-        self.audit();
+        self.known();
         self.odts.entry(
             pointer.list as usize,
             pointer.odt as usize,
@@ -283,7 +283,7 @@ impl Daq {
         requires { self.old.pointer ≡ Some pointer }
         ensures { self.new ≡ read_daq_after self.old }
     {
-        self.audit();
+        self.known();
         self.pointer = self.behind(pointer);
     }
 
@@ -293,7 +293,7 @@ impl Daq {
         requires prescaler { 1 ≤ prescaler }
         ensures { self.new ≡ with_list self.old i (record (list_at self.old i) { event = event; prescaler = prescaler; priority = priority; stamp = stamp }) }
     {
-        self.audit();
+        self.known();
         let mode = Mode {
             event,
             prescaler,

@@ -42,7 +42,7 @@ impl Daq {
         requires all { 8 * n ≤ length elements.now }
         ensures { Checks (result_err (write_daqs layout.now (elements_in layout.now.order n elements.now) self.now)) result }
     {
-        self.audit();
+        self.known();
         let mut pointer = self.pointer;
         for k in 0..n {
             let element = DaqElement::read(rest(elements, ELEMENT_LENGTH * k), layout.order());
@@ -84,7 +84,7 @@ impl Daq {
         requires { write_daq_refusal layout.now element.offset element.size element.extension element.address self.old ≡ None }
         ensures { self.new ≡ write_daq_after element.size element.address self.old }
     {
-        layout.audit();
+        layout.known();
         if let Some(pointer) = self.pointer {
             self.write_entry(pointer, element.size, element.address);
         }

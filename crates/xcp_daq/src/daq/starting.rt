@@ -70,7 +70,7 @@ impl Daq {
         requires fits { mode ≡ 1 → FitsPackets (list_at self.old i).stamp (list_at self.old i).odts }
         ensures { self.new ≡ start_stop_daq_list_after mode i self.old }
     {
-        self.audit();
+        self.known();
         let mut state = self.mode(i);
         match mode {
             STOP => state.stop(),

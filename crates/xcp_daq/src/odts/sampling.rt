@@ -93,7 +93,7 @@ fn has_bytes(element: &Element, pages: &Pages) -> bool
     requires { 1 ≤ element.now.size }
     ensures { result ≡ nat_lt 0 (length (element_bytes pages.now element.now)) }
 {
-    pages.audit();
+    pages.known();
     controller_is_read();
     lies_inside(pages.layout(), element.address, element.size)
 }

@@ -6,14 +6,14 @@ use Rattle.xcp_describe.specs.declared.unread.Unread.{Unread}
 use Rattle.xcp_describe.specs.Places as told
 
 -- a place, without where its name lies in memory
-abbrev pub place_of : Place → told.Place
-place_of place.Top = told.no_table
-place_of (place.Table name) = told.table_named name.now
-place_of (place.Member name n) = told.member_of name.now n
+abbrev pub bare_place : Place → told.Place
+bare_place place.Top = told.no_table
+bare_place (place.Table name) = told.table_named name.now
+bare_place (place.Member name n) = told.member_of name.now n
 
 -- a key with its place
 abbrev pub placed : Unread → told.PlacedKey
-placed u = record { place = place_of u.place; key = u.key.now }
+placed u = record { place = bare_place u.place; key = u.key.now }
 
 abbrev pub keys_of : List Unread → List told.PlacedKey
 keys_of = map placed

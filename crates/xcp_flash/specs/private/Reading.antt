@@ -17,7 +17,7 @@ pub record BeginsWithPages (l : LayoutValue) (bytes : List ℕ) (pages : List (L
   pub whole : bytes ≡ flat_map page_in pages ++ more
 
 -- The file is whole, and these are the bytes behind its head.
-pub record IsWhole (l : LayoutValue) (layout_digest file bytes : List ℕ) : Type 0 where
+pub record IsWholeRead (l : LayoutValue) (layout_digest file bytes : List ℕ) : Type 0 where
   pub pages : List (List ℕ)
   pub found : BeginsWithPages l bytes pages (sha256 (body_of layout_digest pages))
   pub whole : file ≡ head layout_digest ++ bytes

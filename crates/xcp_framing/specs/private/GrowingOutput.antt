@@ -5,19 +5,19 @@ use Rattle.xcp_framing.specs.declared.serving.ServeError.{ServeError}
 use Rattle.xcp_framing.specs.declared.serving.ServeError.TheVariants as errors
 use Rattle.xcp_framing.specs.FrameOutput.{Output, Sends}
 use Rattle.xcp_framing.specs.Wire.{wire_from, len_of, IsBadLength}
-use Rattle.xcp_framing.specs.Serve.{packets_of, most_drains, GavePacket, Drained}
+use Rattle.xcp_framing.specs.Serve.{packets_in_answers, most_drains, GavePacket, Drained}
 
 -- nothing went wrong so far
 abbrev pub fine : Result (Unit {0}) ServeError
 fine = Ok tt
 
 -- Exchanges, of which a fact holds, and the frames of their packets, numbered from `from`: `to` counts on.
-pub record Grows {A : Type 0} (result : Result A ServeError) (Fact : List Exchange → Type 0) (old new : List Exchange) (before after : Output) (from to : ℕ) : Type 0 where
+pub record OutputGrows {A : Type 0} (result : Result A ServeError) (Fact : List Exchange → Type 0) (old new : List Exchange) (before after : Output) (from to : ℕ) : Type 0 where
   pub exchanges : List Exchange
   pub grown : new ≡ old ++ exchanges
   pub fact : Fact exchanges
-  pub sends : Sends result before after (wire_from from (packets_of exchanges))
-  pub counts : OnOk result (to ≡ from + length (packets_of exchanges))
+  pub sends : Sends result before after (wire_from from (packets_in_answers exchanges))
+  pub counts : OnOk result (to ≡ from + length (packets_in_answers exchanges))
 
 -- the Drains behind a command, or fewer
 abbrev pub DrainsSoFar : {A : Type 0} → Result A ServeError → List Exchange → Type 0

@@ -2,7 +2,7 @@
 use Rattle.std.specs.Prelude.{◌≡◌, ℕ, List, ◌++◌, length, Result, Ok}
 use Rattle.xcp_slave.specs.declared.Exchange.{Exchange}
 use Rattle.xcp_framing.specs.declared.serving.ServeError.{ServeError}
-use Rattle.xcp_framing.specs.Serve.{packets_of}
+use Rattle.xcp_framing.specs.Serve.{packets_in_answers}
 use Rattle.xcp_framing.specs.Pump.{AllDrains}
 use Rattle.xcp_framing.specs.private.PutOutput.{MovesSoFar}
 
@@ -11,5 +11,5 @@ pub record PumpsHeld (result : Result ℕ ServeError) (old new : List Exchange) 
   pub exchanges : List Exchange
   pub grown : new ≡ old ++ exchanges
   pub drains : AllDrains exchanges
-  pub moves : MovesSoFar result put held put' held' (packets_of exchanges)
-  pub counts : (n : ℕ) → result ≡ Ok n → n ≡ length (packets_of exchanges)
+  pub moves : MovesSoFar result put held put' held' (packets_in_answers exchanges)
+  pub counts : (n : ℕ) → result ≡ Ok n → n ≡ length (packets_in_answers exchanges)

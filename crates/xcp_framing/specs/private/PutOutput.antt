@@ -11,10 +11,10 @@ pub record Moves (put held put' held' more : List (List ℕ)) : Type 0 where
   pub rest : moved ++ held' ≡ held ++ more
 
 -- a batch was handed back, or there was no memory for one
-abbrev pub IsUnput : ServeError → Type 0
-IsUnput errors.Write = ⊤
-IsUnput errors.NoRoom = ⊤
-IsUnput _ = ⊥
+abbrev pub IsLeftUnput : ServeError → Type 0
+IsLeftUnput errors.Write = ⊤
+IsLeftUnput errors.NoRoom = ⊤
+IsLeftUnput _ = ⊥
 
 -- The same, unless a batch was handed back, or had no memory: then only a front of them was put, and nothing is held.
 abbrev pub MovesSoFar : {A : Type 0} → Result A ServeError → List (List ℕ) → List (List ℕ) → List (List ℕ) → List (List ℕ) → List (List ℕ) → Type 0

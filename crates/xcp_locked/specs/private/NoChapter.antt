@@ -8,5 +8,5 @@ abbrev pub no_slave : SlaveValue
 no_slave = opening no_layout
 
 -- nothing happens in it
-abbrev pub no_chapter : ChapterValue
-no_chapter = record { number = 0; before = 0; base = no_slave; entries = []; last = no_slave }
+abbrev pub empty_chapter : ChapterValue
+empty_chapter = record { number = 0; before = 0; base = no_slave; entries = []; last = no_slave }

@@ -14,7 +14,7 @@ IsOwnBank size named bank = (bank ≡ named) × (image_bytes bank ≡ size) × (
 
 -- What the writer of this bank has published since the chapter's first image, and where, is what is published of these exchanges,
 -- which led from v to w; the image published last is at hand, and the bank has images of so many bytes.
-pub record IsKept (size : ℕ) (bank : BankId) (v : SlaveValue) (xs : List Exchange) (w : SlaveValue) (p : Publisher) : Type 0 where
+pub record IsOfferKept (size : ℕ) (bank : BankId) (v : SlaveValue) (xs : List Exchange) (w : SlaveValue) (p : Publisher) : Type 0 where
   pub list : List Publication
   pub published : Published v xs list
   pub front : List (List ℕ)

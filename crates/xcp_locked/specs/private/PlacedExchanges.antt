@@ -6,12 +6,12 @@ use Rattle.xcp_locked.specs.declared.receipt.Receipt.{Receipt}
 use Rattle.xcp_locked.specs.declared.receipts.Place.{Place}
 
 -- each place with the exchange that stands beside it
-abbrev pub receipts_in : List Place → List Exchange → List Receipt
-receipts_in [] exchanges = []
-receipts_in (p ∷ places) [] = []
-receipts_in (p ∷ places) (x ∷ exchanges) = receipt p.chapter p.at x.request x.answer ∷ receipts_in places exchanges
+abbrev pub receipts_at : List Place → List Exchange → List Receipt
+receipts_at [] exchanges = []
+receipts_at (p ∷ places) [] = []
+receipts_at (p ∷ places) (x ∷ exchanges) = receipt p.chapter p.at x.request x.answer ∷ receipts_at places exchanges
 
 -- a receipt and those behind it, or none
-abbrev pub ahead : Option Receipt → List Receipt → List Receipt
-ahead None rest = []
-ahead (Some r) rest = r ∷ rest
+abbrev pub receipts_ahead : Option Receipt → List Receipt → List Receipt
+receipts_ahead None rest = []
+receipts_ahead (Some r) rest = r ∷ rest

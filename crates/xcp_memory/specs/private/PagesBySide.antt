@@ -5,9 +5,9 @@ use Rattle.xcp_memory.specs.declared.page_set.Side.TheVariants.{Ecu, Xcp}
 use Rattle.xcp_memory.specs.Pages.{SegmentPages, ecu_page, xcp_page}
 
 -- the number of the page that a side has
-abbrev pub number_by : Side → SegmentPages → ℕ
-number_by Ecu s = s.ecu
-number_by Xcp s = s.xcp
+abbrev pub page_by_side : Side → SegmentPages → ℕ
+page_by_side Ecu s = s.ecu
+page_by_side Xcp s = s.xcp
 
 -- the page that a side has
 abbrev pub page_by : Side → SegmentPages → List ℕ

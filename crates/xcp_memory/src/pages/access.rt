@@ -21,7 +21,7 @@ impl Pages {
         ensures reads { OnOk result (Reads Tool self.now address (length out.old) out.new) }
         ensures refused { IfErr result (λ code. (code ≡ Code.AccessDenied) × (lies_inside self.now.layout address (length out.old) ≡ false) × (out.new ≡ out.old)) }
     {
-        self.audit();
+        self.known();
         out.copy_from_slice(self.range(Side::Xcp, address, out.len())?);
         Ok(())
     }
@@ -34,7 +34,7 @@ impl Pages {
         ensures reads { OnOk result (Reads Controller self.now address (length out.old) out.new) }
         ensures refused { IfErr result (λ code. (code ≡ Code.AccessDenied) × (lies_inside self.now.layout address (length out.old) ≡ false) × (out.new ≡ out.old)) }
     {
-        self.audit();
+        self.known();
         out.copy_from_slice(self.range(Side::Ecu, address, out.len())?);
         Ok(())
     }
@@ -47,7 +47,7 @@ impl Pages {
         ensures outside { (result ≡ Err Code.AccessDenied) ↔ (LiesInside self.now.layout address n → ⊥) }
         ensures protected { (result ≡ Err Code.WriteProtected) ↔ LiesProtected self.now address n }
     {
-        self.audit();
+        self.known();
         self.writable(address, n)?;
         Ok(())
     }
@@ -60,7 +60,7 @@ impl Pages {
         ensures outside { (result ≡ Err Code.AccessDenied) ↔ (LiesInside self.old.layout address (length bytes.now) → ⊥) }
         ensures protected { (result ≡ Err Code.WriteProtected) ↔ LiesProtected self.old address (length bytes.now) }
     {
-        self.audit();
+        self.known();
         let (segment, place) = self.writable(address, bytes.len())?;
         self.segments[segment].write(place, bytes);
         Ok(())

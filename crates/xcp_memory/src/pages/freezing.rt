@@ -53,7 +53,7 @@ impl Pages {
         ensures stored { self.new ≡ pages_frozen self.old }
         ensures writable { (a n : ℕ) → write_refusal self.new a n ≡ write_refusal self.old a n }
     {
-        self.layout.audit();
+        self.layout.known();
         store_each(&mut self.segments)
     }
 }

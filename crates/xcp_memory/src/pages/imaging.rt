@@ -11,7 +11,7 @@ impl Pages {
         requires { length out.old ≡ image_size self.now.layout }
         ensures { out.new ≡ ecu_image self.now }
     {
-        self.audit();
+        self.known();
         let _ = self.ecu_image_part(0, out);
     }
 
@@ -22,7 +22,7 @@ impl Pages {
         ensures bytes { out.new ≡ image_part at (length out.old) self.now }
         ensures differs { MatchBool result (out.new ≢ out.old) (out.new ≡ out.old) }
     {
-        self.layout.audit();
+        self.layout.known();
         // How many bytes of the pages that come stand before the part, and how many of it are written.
         let mut before = at;
         let mut done = 0;

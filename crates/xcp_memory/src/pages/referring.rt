@@ -14,7 +14,7 @@ impl Pages {
         ensures value { result.now ≡ reference_page (segment_at self.now segment) }
         ensures size { length result.now ≡ length (get_or self.now.layout.segments segment no_segment).bytes }
     {
-        self.audit();
+        self.known();
         self.segments[segment].at(0)
     }
 
@@ -27,7 +27,7 @@ impl Pages {
         ensures value { result.now ≡ stored_page (segment_at self.now segment) }
         ensures size { length result.now ≡ length (get_or self.now.layout.segments segment no_segment).bytes }
     {
-        self.audit();
+        self.known();
         let pages = &self.segments[segment];
         if pages.is_frozen() {
             pages.page(Side::Xcp)

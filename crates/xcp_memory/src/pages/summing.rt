@@ -18,7 +18,7 @@ impl Pages {
         ensures ok { IfOk result (λ sum. (checksum_refusal self.now address size ≡ None) × (sum ≡ checksum_of self.now address size)) }
         ensures refused { IfErr result (λ code. checksum_refusal self.now address size ≡ Some code) }
     {
-        let kind = self.layout.checksum();
+        let kind = self.layout.checksum_kind();
         kind.check_size(size)?;
         let bytes = self.range(Side::Xcp, address, size as usize)?;
         Ok((number_sum(bytes, kind, self.layout.order()) % modulus(kind)) as u32)

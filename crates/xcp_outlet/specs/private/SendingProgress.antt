@@ -10,7 +10,7 @@ use Rattle.xcp_outlet.specs.OutletEnds.{Taking, all_packets, has_mark}
 use Rattle.xcp_outlet.specs.Sending.{WritesPart}
 
 -- The first packets are written, and the frames of the others are held to be written together.
-pub record Holds (flushed sent : ℕ) (held : List ℕ) (packets : List (List ℕ)) (before after : Option (List ℕ)) (old new : ℕ) : Type 0 where
+pub record HoldsFrames (flushed sent : ℕ) (held : List ℕ) (packets : List (List ℕ)) (before after : Option (List ℕ)) (old new : ℕ) : Type 0 where
   pub whole : List (List ℕ)
   pub later : List (List ℕ)
   pub all : packets ≡ whole ++ later
@@ -22,7 +22,7 @@ pub record Holds (flushed sent : ℕ) (held : List ℕ) (packets : List (List �
 
 -- while it takes: all is written or held, or a write has failed
 abbrev pub Wrote : Bool → ℕ → ℕ → List ℕ → List (List ℕ) → Option (List ℕ) → Option (List ℕ) → ℕ → ℕ → Type 0
-Wrote false flushed sent held packets before after old new = Holds flushed sent held packets before after old new
+Wrote false flushed sent held packets before after old new = HoldsFrames flushed sent held packets before after old new
 Wrote true flushed sent held packets before after old new = WritesPart flushed packets before after old new
 
 pub record Progress (line : Line) (taken : List Message) (before after : Option (List ℕ)) (old new : ℕ) : Type 0 where

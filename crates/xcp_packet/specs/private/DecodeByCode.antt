@@ -62,8 +62,8 @@ coded x [] = None
 coded x (c ∷ cs) = if x == code c then Some c else coded x cs
 
 -- what is read of p: a command that it spells, or why it is none
-abbrev pub Reads : Order → List ℕ → Result Command Refuse → Type 0
-Reads order p (Ok command) = spells order command p
-Reads order p (Err Empty) = p ≡ []
-Reads order p (Err Unknown) = (p ≢ []) × (coded (byte_at 0 p) (readings order p) ≡ None)
-Reads order p (Err Short) = (p ≢ []) × MatchOption (coded (byte_at 0 p) (readings order p)) ⊥ (λ c. length p < least c)
+abbrev pub ReadsCode : Order → List ℕ → Result Command Refuse → Type 0
+ReadsCode order p (Ok command) = spells order command p
+ReadsCode order p (Err Empty) = p ≡ []
+ReadsCode order p (Err Unknown) = (p ≢ []) × (coded (byte_at 0 p) (readings order p) ≡ None)
+ReadsCode order p (Err Short) = (p ≢ []) × MatchOption (coded (byte_at 0 p) (readings order p)) ⊥ (λ c. length p < least c)

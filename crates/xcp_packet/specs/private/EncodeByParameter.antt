@@ -19,10 +19,10 @@ unfolding up_to
 put p place bytes = up_to place p ++ bytes
 
 -- p, and then each parameter at its place
-abbrev pub joined : Order → List ℕ → List Parameter → List ℕ
-joined order p [] = p
-joined order p (x ∷ xs) = joined order (put p (place_of x) (bytes_in order x)) xs
+abbrev pub with_parameters : Order → List ℕ → List Parameter → List ℕ
+with_parameters order p [] = p
+with_parameters order p (x ∷ xs) = with_parameters order (put p (place_of x) (bytes_in order x)) xs
 
 -- the code, and then each parameter at its place
 abbrev pub built : Order → Command → List ℕ
-built order c = joined order (start (code c)) (parameters c)
+built order c = with_parameters order (start (code c)) (parameters c)

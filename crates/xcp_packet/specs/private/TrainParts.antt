@@ -9,13 +9,13 @@ use Rattle.xcp_packet.specs.BlockPacketLemmas.{block_of_more, block_joined, bloc
 use Rattle.xcp_packet.specs.declared.train.Train.TheInside.{Inside}
 
 -- the bytes of several packets have no room in one
-pub record IsBlock (width : ℕ) (bytes : List ℕ) : Type 0 where
+pub record IsTrainBlock (width : ℕ) (bytes : List ℕ) : Type 0 where
   pub some : 0 < width
   pub more : width < length bytes
 
 abbrev pub IsTrain : Option ℕ → List ℕ → Type 0
 IsTrain None bytes = Unit {0}
-IsTrain (Some width) bytes = IsBlock width bytes
+IsTrain (Some width) bytes = IsTrainBlock width bytes
 
 -- the data bytes of packets
 abbrev pub data_in : List (List ℕ) → List ℕ

@@ -97,11 +97,11 @@ abbrev pub AsksSomething : Option (Text × List Row) → Type 0
 AsksSomething found = AsksRun found ⊎ (AsksDescription found ⊎ AsksAudit found)
 
 -- why words in which clap finds no fault ask for nothing
-abbrev pub IsRefusal : Option (Text × List Row) → OptionsFault → Type 0
-IsRefusal found Memory = Unit {0}
-IsRefusal found (Words e) = ⊥
-IsRefusal found TooManyTools = AsksTooMany found
-IsRefusal found NotForStay = AsksToEnd found
-IsRefusal found OnlyForStay = AsksToStay found
-IsRefusal found OnlyForJournal = AsksToCut found
-IsRefusal found OneFile = AsksForOneFile found
+abbrev pub IsAskedRefusal : Option (Text × List Row) → OptionsFault → Type 0
+IsAskedRefusal found Memory = Unit {0}
+IsAskedRefusal found (Words e) = ⊥
+IsAskedRefusal found TooManyTools = AsksTooMany found
+IsAskedRefusal found NotForStay = AsksToEnd found
+IsAskedRefusal found OnlyForStay = AsksToStay found
+IsAskedRefusal found OnlyForJournal = AsksToCut found
+IsAskedRefusal found OneFile = AsksForOneFile found

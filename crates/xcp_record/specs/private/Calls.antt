@@ -9,7 +9,7 @@ use Rattle.xcp_trace.specs.Tape.{spelt}
 use Rattle.xcp_record.specs.FileFormat.{chapter_head}
 
 -- the bytes are these strings of calls
-pub record Spells (bytes : List ℕ) (strings : List (List ℕ)) : Type 0 where
+pub record SpellsCalls (bytes : List ℕ) (strings : List (List ℕ)) : Type 0 where
   pub whole : spelt strings ≡ bytes
   pub each : AllByRecursion IsEntryString strings
 

@@ -29,11 +29,11 @@ pub record IsRead (number : ℕ) (before read calls : List ℕ) (count : ℕ) : 
   pub size : length strings ≡ count
 
 -- What comes of a chapter's check: the hasher held the bytes before, and where the chapter stands there, it holds it too.
-abbrev pub Checks : ℕ → List ℕ → List ℕ → List ℕ → Sha256 → Result ℕ ChapterFault → Type 0
-Checks number before read calls hasher (Ok count) = IsRead number before read calls count × Holds256 hasher (before ++ read)
-Checks number before read calls hasher (Err faults.Altered) = IsNoChapter number before read
-Checks number before read calls hasher (Err faults.Memory) = Unit {0}
-Checks number before read calls hasher (Err e) = ⊥
+abbrev pub ChecksChapter : ℕ → List ℕ → List ℕ → List ℕ → Sha256 → Result ℕ ChapterFault → Type 0
+ChecksChapter number before read calls hasher (Ok count) = IsRead number before read calls count × Holds256 hasher (before ++ read)
+ChecksChapter number before read calls hasher (Err faults.Altered) = IsNoChapter number before read
+ChecksChapter number before read calls hasher (Err faults.Memory) = Unit {0}
+ChecksChapter number before read calls hasher (Err e) = ⊥
 
 -- What comes of an end mark's check behind these bytes, which have n calls.
 abbrev pub ChecksMark : ℕ → List ℕ → List ℕ → Result (Unit {0}) ChapterFault → Type 0
@@ -51,12 +51,12 @@ ReadsMark n before End read (Err e) = Unit {0}
 
 -- What comes of the next part behind so many chapters and n calls: a chapter stands there, or the file ends there, or what stands there
 -- in their place.
-abbrev pub ReadsNext : ℕ → ℕ → List ℕ → Type 0 → List ℕ → List ℕ → Sha256 → Result Part ChapterFault → Type 0
-ReadsNext number n before End read calls hasher (Ok (parts.Chapter count)) = IsRead number before read calls count × Holds256 hasher (before ++ read)
-ReadsNext number n before End read calls hasher (Ok (parts.End ending)) = End × (read ≡ ending_in before n ending)
-ReadsNext number n before End read calls hasher (Err faults.Cut) = End × (0 < length read) × EndsInside read
-ReadsNext number n before End read calls hasher (Err faults.Altered) = IsNoPart n number before read
-ReadsNext number n before End read calls hasher (Err e) = Unit {0}
+abbrev pub ReadsNextPart : ℕ → ℕ → List ℕ → Type 0 → List ℕ → List ℕ → Sha256 → Result Part ChapterFault → Type 0
+ReadsNextPart number n before End read calls hasher (Ok (parts.Chapter count)) = IsRead number before read calls count × Holds256 hasher (before ++ read)
+ReadsNextPart number n before End read calls hasher (Ok (parts.End ending)) = End × (read ≡ ending_in before n ending)
+ReadsNextPart number n before End read calls hasher (Err faults.Cut) = End × (0 < length read) × EndsInside read
+ReadsNextPart number n before End read calls hasher (Err faults.Altered) = IsNoPart n number before read
+ReadsNextPart number n before End read calls hasher (Err e) = Unit {0}
 
 -- why an audit ends after so many calls
 abbrev pub fault_after : ℕ → ChapterFault → AuditFault

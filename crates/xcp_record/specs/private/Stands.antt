@@ -9,7 +9,7 @@ use Rattle.xcp_record.specs.JournalFile.{calls_of}
 use Rattle.xcp_record.specs.Audit.{Settles}
 
 -- All that was read is settled, and so many chapters and calls; the hasher holds it, the slave has executed it, and the calls were told.
-pub record Stands (roster : Option Roster) (layout : List ℕ) (v : SlaveValue) (Read : List ℕ → Type 0) (Told : List Entry → Type 0) (hasher : Sha256) (slave : SlaveValue) (number calls : ℕ) : Type 0 where
+pub record AuditStands (roster : Option Roster) (layout : List ℕ) (v : SlaveValue) (Read : List ℕ → Type 0) (Told : List Entry → Type 0) (hasher : Sha256) (slave : SlaveValue) (number calls : ℕ) : Type 0 where
   pub read : List ℕ
   pub was : Read read
   pub held : Holds256 hasher read

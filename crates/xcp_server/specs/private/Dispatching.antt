@@ -8,11 +8,11 @@ use Rattle.xcp_connection.specs.declared.hearing.Heard.{Heard}
 use Rattle.xcp_connection.specs.declared.pumping.Pumped.{Pumped}
 
 -- the three ends of an outlet
-abbrev pub Ends : Type 0
-Ends = EndSeen × EndSeen × Taking
+abbrev pub ThreeEnds : Type 0
+ThreeEnds = EndSeen × EndSeen × Taking
 
 -- the ends are of one outlet, and nothing was put
-pub record IsFresh (e : Ends) : Type 0 where
+pub record IsFreshDispatch (e : ThreeEnds) : Type 0 where
   pub replies : e.0 ≡ record { outlet = e.2.outlet; side = false; put = [] }
   pub samples : e.1 ≡ record { outlet = e.2.outlet; side = true; put = [] }
 
@@ -22,7 +22,7 @@ pub record IsUnput (e : EndSeen × EndSeen) : Type 0 where
   pub samples : e.1 ≡ record { outlet = e.0.outlet; side = true; put = [] }
 
 -- the outlet at a place
-abbrev pub outlet_at : List Ends → ℕ → Outlet
+abbrev pub outlet_at : List ThreeEnds → ℕ → Outlet
 outlet_at [] i = no_outlet
 outlet_at (e ∷ es) zero = e.2.outlet
 outlet_at (e ∷ es) (suc i) = outlet_at es i

@@ -12,7 +12,7 @@ use Rattle.xcp_server.specs.declared.closing.Closing.{Closing}
 use Rattle.xcp_connection.specs.declared.closing.Gone.{Gone}
 
 -- What became of connections and readers is given back, and the slave as it is.
-pub record GivesBack {N I O : Type 0} (layout : LayoutValue) (outcomes : List (Result Served ServeError)) (left : List (Gone I O)) (readers : List ReaderEnd) (r : Closing N I O) : Type 0 where
+pub record GivesBackAll {N I O : Type 0} (layout : LayoutValue) (outcomes : List (Result Served ServeError)) (left : List (Gone I O)) (readers : List ReaderEnd) (r : Closing N I O) : Type 0 where
   -- how each connection ended
   pub outcomes_are : r.outcomes.items ≡ outcomes
   -- what its streams were then

@@ -6,8 +6,8 @@ use Rattle.xcp_packet.specs.ByteOrder.{byte_at}
 use Rattle.xcp_packet.specs.declared.Command.{Command}
 use Rattle.xcp_packet.specs.declared.Code.TheVariants.{CmdUnknown, CmdSyntax}
 use Rattle.xcp_packet.specs.declared.Sent.{Sent}
-use Rattle.xcp_packet.specs.declared.Fault.{Fault}
-use Rattle.xcp_packet.specs.declared.Fault.TheVariants as faults
+use Rattle.xcp_packet.specs.declared.CommandError.{CommandError}
+use Rattle.xcp_packet.specs.declared.CommandError.TheVariants as faults
 use Rattle.xcp_slave.specs.SlaveValue.{SlaveValue, noblock}
 use Rattle.xcp_slave.specs.private.TellsRow.{TellsRow}
 use Rattle.xcp_slave.specs.Step.{found_by}
@@ -22,6 +22,6 @@ abbrev pub found_at : ℕ → SlaveValue → SlaveValue
 found_at code v = if code == 0xEF then v else noblock v
 
 -- What comes of a packet p, where c is the command with its code, if there is one, with the parameters that stand in p.
-abbrev pub TellsCoded : Option Command → List ℕ → SlaveValue → Result Sent Fault → List ℕ → SlaveValue → Type 0
+abbrev pub TellsCoded : Option Command → List ℕ → SlaveValue → Result Sent CommandError → List ℕ → SlaveValue → Type 0
 TellsCoded None p v r bytes w = (r ≡ Err (faults.Code CmdUnknown)) × (w ≡ noblock v)
 TellsCoded (Some c) p v r bytes w = MatchBool (nat_lt (length p) (least c)) ((r ≡ Err (faults.Code CmdSyntax)) × (w ≡ noblock v)) (TellsRow c (found_by c v) r bytes w)

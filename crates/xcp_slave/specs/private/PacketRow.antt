@@ -5,9 +5,9 @@ use Rattle.xcp_memory.specs.declared.Class.{Class}
 use Rattle.xcp_memory.specs.declared.ClassLimits.{ClassLimits}
 
 -- the first of a list, and those behind it
-abbrev pub first_of : {A : Type 0} → List A → Option A
-first_of [] = None
-first_of (x ∷ xs) = Some x
+abbrev pub first_in : {A : Type 0} → List A → Option A
+first_in [] = None
+first_in (x ∷ xs) = Some x
 
 abbrev pub behind_first : {A : Type 0} → List A → List A
 behind_first [] = []

@@ -5,7 +5,7 @@ ghost use Rattle.xcp_slave.specs.private.TellsRow.{TellsRow};
 
 use super::{Handled, Slave};
 use xcp_daq::Daq;
-use xcp_packet::{Code, Command, Fault, Packet, Reply};
+use xcp_packet::{Code, Command, CommandError, Packet, Reply};
 use xcp_transfer::{Mta, TextId};
 
 impl Slave {
@@ -46,7 +46,7 @@ impl Slave {
         // A match, since the check finds no proof of `?` here.
         match self.daq.write_daq(layout, offset, size, extension, address) {
             Ok(()) => Ok(self.done(packet)),
-            Err(code) => Err(Fault::Code(code)),
+            Err(code) => Err(CommandError::Code(code)),
         }
     }
 
@@ -56,11 +56,11 @@ impl Slave {
         self.transfer.give_up_block();
         let layout = self.transfer.pages().layout();
         if !layout.extras().uploads_a2l() {
-            return Err(Fault::Code(Code::CmdUnknown));
+            return Err(CommandError::Code(Code::CmdUnknown));
         }
         match self.daq.write_daq_multiple(layout, bytes) {
             Ok(()) => Ok(self.done(packet)),
-            Err(code) => Err(Fault::Code(code)),
+            Err(code) => Err(CommandError::Code(code)),
         }
     }
 
@@ -93,7 +93,7 @@ impl Slave {
             prescaler: told.prescaler,
             priority: told.priority,
         };
-        Ok(self.tell(&reply, packet))
+        Ok(self.respond(&reply, packet))
     }
 
     pub(super) fn start_stop_daq_list(
@@ -107,7 +107,7 @@ impl Slave {
         self.transfer.give_up_block();
         let layout = self.transfer.pages().layout();
         let first_pid = self.daq.start_stop_daq_list(layout, mode, list)?;
-        Ok(self.tell(&Reply::FirstPid(first_pid), packet))
+        Ok(self.respond(&Reply::FirstPid(first_pid), packet))
     }
 
     pub(super) fn start_stop_synch(&mut self, mode: u8, packet: &mut Packet) -> Handled
@@ -132,7 +132,7 @@ impl Slave {
             extension: 0,
             address,
         };
-        Ok(self.tell(&reply, packet))
+        Ok(self.respond(&reply, packet))
     }
 
     pub(super) fn get_daq_processor_info(&mut self, packet: &mut Packet) -> Handled
@@ -145,7 +145,7 @@ impl Slave {
             lists: told.lists,
             events: told.events,
         };
-        Ok(self.tell(&reply, packet))
+        Ok(self.respond(&reply, packet))
     }
 
     pub(super) fn get_daq_resolution_info(&mut self, packet: &mut Packet) -> Handled
@@ -158,7 +158,7 @@ impl Slave {
             mode: told.mode,
             ticks: told.ticks,
         };
-        Ok(self.tell(&reply, packet))
+        Ok(self.respond(&reply, packet))
     }
 
     pub(super) fn get_daq_clock(&mut self, packet: &mut Packet) -> Handled
@@ -166,10 +166,10 @@ impl Slave {
     {
         self.transfer.give_up_block();
         if self.layout().clock().stamp.size() == 0 {
-            return Err(Fault::Code(Code::CmdUnknown));
+            return Err(CommandError::Code(Code::CmdUnknown));
         }
         let time = (self.time % 0x1_0000_0000) as u32;
-        Ok(self.tell(&Reply::DaqClock(time), packet))
+        Ok(self.respond(&Reply::DaqClock(time), packet))
     }
 
     pub(super) fn get_daq_event_info(&mut self, channel: u16, packet: &mut Packet) -> Handled
@@ -177,7 +177,7 @@ impl Slave {
     {
         self.transfer.give_up_block();
         let layout = self.transfer.pages().layout();
-        layout.audit();
+        layout.known();
         let told = Daq::event_info(layout, channel)?;
         self.transfer
             .set_mta(Mta::Text(TextId::Name(channel as u8), 0));
@@ -188,6 +188,6 @@ impl Slave {
             unit: told.unit,
             priority: told.priority,
         };
-        Ok(self.tell(&reply, packet))
+        Ok(self.respond(&reply, packet))
     }
 }

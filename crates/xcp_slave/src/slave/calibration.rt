@@ -4,7 +4,7 @@
 ghost use Rattle.xcp_slave.specs.private.TellsRow.{TellsRow};
 
 use super::{Handled, Slave};
-use xcp_packet::{Code, Command, Fault, Packet};
+use xcp_packet::{Code, Command, CommandError, Packet};
 use xcp_transfer::Mta;
 
 impl Slave {
@@ -13,7 +13,7 @@ impl Slave {
     {
         if extension != 0 {
             self.transfer.give_up_block();
-            return Err(Fault::Code(Code::OutOfRange));
+            return Err(CommandError::Code(Code::OutOfRange));
         }
         self.transfer.set_mta(Mta::Memory(address));
         Ok(self.done(packet))

@@ -6,7 +6,7 @@ ghost use Rattle.xcp_slave.specs.private.TellsRow.{TellsRow};
 
 use super::{Handled, Slave};
 use crate::PageProperties;
-use xcp_packet::{Code, Command, Fault, Packet, Reply};
+use xcp_packet::{Code, Command, CommandError, Packet, Reply};
 
 /// The mode of SET_REQUEST by which a store of the pages is requested.
 const STORE_CAL: u8 = 0x01;
@@ -31,7 +31,7 @@ impl Slave {
     {
         self.transfer.give_up_block();
         let page = self.transfer.pages().page(mode, segment)?;
-        Ok(self.tell(&Reply::CalPage(page), packet))
+        Ok(self.respond(&Reply::CalPage(page), packet))
     }
 
     pub(super) fn get_pag_processor_info(&mut self, packet: &mut Packet) -> Handled
@@ -39,7 +39,7 @@ impl Slave {
     {
         self.transfer.give_up_block();
         let segments = self.layout().segment_count() as u8;
-        Ok(self.tell(&Reply::PagInfo(segments), packet))
+        Ok(self.respond(&Reply::PagInfo(segments), packet))
     }
 
     pub(super) fn get_segment_info(
@@ -54,18 +54,18 @@ impl Slave {
     {
         self.transfer.give_up_block();
         if mode > 1 {
-            return Err(Fault::Code(Code::OutOfRange));
+            return Err(CommandError::Code(Code::OutOfRange));
         }
         let pages = self.transfer.pages().page_count(segment)?;
         if mode == 1 {
-            return Ok(self.tell(&Reply::SegmentStandard { pages }, packet));
+            return Ok(self.respond(&Reply::SegmentStandard { pages }, packet));
         }
         let number = match info {
             0 => self.layout().segment_address(segment as usize),
             1 => self.layout().segment_size(segment as usize) as u32,
-            _ => return Err(Fault::Code(Code::OutOfRange)),
+            _ => return Err(CommandError::Code(Code::OutOfRange)),
         };
-        Ok(self.tell(&Reply::SegmentWord(number), packet))
+        Ok(self.respond(&Reply::SegmentWord(number), packet))
     }
 
     pub(super) fn get_page_info(&mut self, segment: u8, page: u8, packet: &mut Packet) -> Handled
@@ -77,7 +77,7 @@ impl Slave {
             properties: PageProperties::bits_of(page),
             init: segment,
         };
-        Ok(self.tell(&reply, packet))
+        Ok(self.respond(&reply, packet))
     }
 
     pub(super) fn set_segment_mode(&mut self, mode: u8, segment: u8, packet: &mut Packet) -> Handled
@@ -93,7 +93,7 @@ impl Slave {
     {
         self.transfer.give_up_block();
         let mode = self.transfer.pages().freeze_mode(segment)?;
-        Ok(self.tell(&Reply::SegmentMode(mode), packet))
+        Ok(self.respond(&Reply::SegmentMode(mode), packet))
     }
 
     pub(super) fn copy_cal_page(
@@ -117,7 +117,7 @@ impl Slave {
     {
         self.transfer.give_up_block();
         if mode != STORE_CAL {
-            return Err(Fault::Code(Code::OutOfRange));
+            return Err(CommandError::Code(Code::OutOfRange));
         }
         self.store = true;
         Ok(self.done(packet))

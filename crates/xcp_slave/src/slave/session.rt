@@ -7,7 +7,7 @@ ghost use Rattle.xcp_slave.specs.private.TellsRow.{TellsRow};
 
 use super::{Handled, Slave};
 use crate::SessionStatus;
-use xcp_packet::{Code, Command, Fault, Packet, Reply};
+use xcp_packet::{Code, Command, CommandError, Packet, Reply};
 use xcp_transfer::Mta;
 
 /// COMM_MODE_BASIC of CONNECT but for the byte order, which is bit 0: optional information can be
@@ -40,7 +40,7 @@ impl Slave {
             max_cto: self.layout().max_cto(),
             max_dto: u16::from(self.layout().max_dto()),
         };
-        Ok(self.tell(&reply, packet))
+        Ok(self.respond(&reply, packet))
     }
 
     pub(super) fn disconnect(&mut self, packet: &mut Packet) -> Handled
@@ -54,19 +54,19 @@ impl Slave {
         ensures { TellsRow Command.GetStatus self.old result packet.new.items self.new }
     {
         let status = SessionStatus::bits_of(self.store, self.daq.any_running());
-        Ok(self.tell(&Reply::Status(status), packet))
+        Ok(self.respond(&Reply::Status(status), packet))
     }
 
     pub(super) fn synch(&mut self, packet: &mut Packet) -> Handled
         ensures { TellsRow Command.Synch self.old result packet.new.items self.new }
     {
-        Ok(self.tell(&Reply::Error(Code::CmdSynch), packet))
+        Ok(self.respond(&Reply::Error(Code::CmdSynch), packet))
     }
 
     pub(super) fn get_comm_mode_info(&mut self, packet: &mut Packet) -> Handled
         ensures { TellsRow Command.GetCommModeInfo self.old result packet.new.items self.new }
     {
-        Ok(self.tell(&Reply::CommMode, packet))
+        Ok(self.respond(&Reply::CommMode, packet))
     }
 
     pub(super) fn get_id(&mut self, kind: u8, packet: &mut Packet) -> Handled
@@ -80,11 +80,11 @@ impl Slave {
     {
         self.transfer.give_up_block();
         if !self.layout().extras().uploads_a2l() {
-            return Err(Fault::Code(Code::CmdUnknown));
+            return Err(CommandError::Code(Code::CmdUnknown));
         }
         match check_level(bytes) {
-            Ok(()) => Ok(self.tell(&Reply::Version, packet)),
-            Err(code) => Err(Fault::Code(code)),
+            Ok(()) => Ok(self.respond(&Reply::Version, packet)),
+            Err(code) => Err(CommandError::Code(code)),
         }
     }
 }

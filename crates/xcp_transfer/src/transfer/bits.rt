@@ -6,7 +6,7 @@ ghost use Rattle.xcp_transfer.specs.TransferValue.{response_room, without_block}
 
 use super::Transfer;
 use crate::access::{read_double, writable, write_double};
-use xcp_packet::{Code, Fault, Packet, Sent, write_done};
+use xcp_packet::{Code, CommandError, Packet, Sent, write_done};
 
 /// How many bytes a double word has.
 const DOUBLE: u8 = 4;
@@ -24,12 +24,12 @@ impl Transfer {
         ma: u16,
         mx: u16,
         packet: &mut Packet,
-    ) -> Result<Sent, Fault>
+    ) -> Result<Sent, CommandError>
         ensures { Tells self.old.pages.layout.order (response_room self.old.pages.layout) (modify_bits_row s ma mx self.old) (without_block self.old) result packet.new.items self.new }
     {
         self.give_up_block();
         if s > 31 {
-            return Err(Fault::Code(Code::OutOfRange));
+            return Err(CommandError::Code(Code::OutOfRange));
         }
         let address = writable(&self.pages, self.mta, DOUBLE)?;
         let old = read_double(&self.pages, address);

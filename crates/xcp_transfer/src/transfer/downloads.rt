@@ -10,7 +10,7 @@ use super::Transfer;
 use crate::Mta;
 use crate::access::{writable, write, write_allowed};
 use crate::block::Block;
-use xcp_packet::{Code, Fault, Packet, Sent, write_done};
+use xcp_packet::{Code, CommandError, Packet, Sent, write_done};
 
 /// MAX_BS: the greatest number of packets in a block.
 const MAX_BS: usize = 8;
@@ -23,16 +23,21 @@ impl Transfer {
     /// `OutOfRange` for n, `CmdSyntax` where data bytes are missing, then `AccessDenied` and
     /// `WriteProtected` for all n bytes.
     /// ASAM MCD-1 XCP, protocol layer, description of commands: DOWNLOAD.
-    pub fn download(&mut self, n: u8, bytes: &[u8], packet: &mut Packet) -> Result<Sent, Fault>
+    pub fn download(
+        &mut self,
+        n: u8,
+        bytes: &[u8],
+        packet: &mut Packet,
+    ) -> Result<Sent, CommandError>
         ensures { Tells self.old.pages.layout.order (response_room self.old.pages.layout) (download_row n bytes.now self.old) (without_block self.old) result packet.new.items self.new }
     {
         self.give_up_block();
         if n == 0 || n as usize > self.greatest_download() {
-            return Err(Fault::Code(Code::OutOfRange));
+            return Err(CommandError::Code(Code::OutOfRange));
         }
         let room = self.packet_room();
         if bytes.len() < n.min(room) as usize {
-            return Err(Fault::Code(Code::CmdSyntax));
+            return Err(CommandError::Code(Code::CmdSyntax));
         }
         if n <= room {
             return self.write_first(self.mta, n, bytes, packet);
@@ -55,21 +60,21 @@ impl Transfer {
         remaining: u8,
         bytes: &[u8],
         packet: &mut Packet,
-    ) -> Result<Sent, Fault>
+    ) -> Result<Sent, CommandError>
         ensures { Tells self.old.pages.layout.order (response_room self.old.pages.layout) (download_next_row remaining bytes.now self.old) (without_block self.old) result packet.new.items self.new }
     {
         let room = self.packet_room();
         let Some(block) = &mut self.block else {
-            return Err(Fault::Count(Code::Sequence, 0));
+            return Err(CommandError::Count(Code::Sequence, 0));
         };
         let expected = block.expected();
         if remaining != expected {
             self.block = None;
-            return Err(Fault::Count(Code::Sequence, expected));
+            return Err(CommandError::Count(Code::Sequence, expected));
         }
         if bytes.len() < remaining.min(room) as usize {
             self.block = None;
-            return Err(Fault::Code(Code::CmdSyntax));
+            return Err(CommandError::Code(Code::CmdSyntax));
         }
         if remaining > room {
             block.add(&bytes[..room as usize]);
@@ -86,13 +91,13 @@ impl Transfer {
     ///
     /// `CmdSyntax` where data bytes are missing, then `AccessDenied`, then `WriteProtected`.
     /// ASAM MCD-1 XCP, protocol layer, description of commands: DOWNLOAD_MAX.
-    pub fn download_max(&mut self, bytes: &[u8], packet: &mut Packet) -> Result<Sent, Fault>
+    pub fn download_max(&mut self, bytes: &[u8], packet: &mut Packet) -> Result<Sent, CommandError>
         ensures { Tells self.old.pages.layout.order (response_room self.old.pages.layout) (download_max_row bytes.now self.old) (without_block self.old) result packet.new.items self.new }
     {
         self.give_up_block();
         let n = self.pages.layout().max_cto() - 1;
         if bytes.len() < n as usize {
-            return Err(Fault::Code(Code::CmdSyntax));
+            return Err(CommandError::Code(Code::CmdSyntax));
         }
         self.write_first(self.mta, n, bytes, packet)
     }
@@ -110,15 +115,15 @@ impl Transfer {
         address: u32,
         bytes: &[u8],
         packet: &mut Packet,
-    ) -> Result<Sent, Fault>
+    ) -> Result<Sent, CommandError>
         ensures { Tells self.old.pages.layout.order (response_room self.old.pages.layout) (short_download_row n extension address bytes.now self.old) (without_block self.old) result packet.new.items self.new }
     {
         self.give_up_block();
         if n == 0 || n > self.pages.layout().max_cto() - 8 || extension != 0 {
-            return Err(Fault::Code(Code::OutOfRange));
+            return Err(CommandError::Code(Code::OutOfRange));
         }
         if bytes.len() < n as usize {
-            return Err(Fault::Code(Code::CmdSyntax));
+            return Err(CommandError::Code(Code::CmdSyntax));
         }
         self.write_first(Mta::Memory(address), n, bytes, packet)
     }
@@ -145,7 +150,7 @@ impl Transfer {
         n: u8,
         bytes: &[u8],
         packet: &mut Packet,
-    ) -> Result<Sent, Fault>
+    ) -> Result<Sent, CommandError>
         requires some { 0 < n }
         requires enough { n ≤ length bytes.now }
         requires no_block { self.old.block ≡ None }

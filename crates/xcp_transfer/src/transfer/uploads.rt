@@ -8,7 +8,7 @@ use super::Transfer;
 use crate::access::{checksum, read, read_block, text};
 use crate::{Mta, TextId};
 use xcp_memory::Layout;
-use xcp_packet::{Code, Fault, Packet, Reply, Sent, Width, write_reply};
+use xcp_packet::{Code, CommandError, Packet, Reply, Sent, Width, write_reply};
 
 /// A text that has bytes.
 fn with_bytes(layout: &Layout, id: TextId) -> Option<TextId>
@@ -44,12 +44,12 @@ impl Transfer {
     /// and past a text's end.
     /// ASAM MCD-1 XCP, protocol layer, description of commands: UPLOAD; slave block transfer mode.
     #[tactic(auto, using(xcp_packet::specs::BlockPacketLemmas::block_of_one))]
-    pub fn upload(&mut self, n: u8, packet: &mut Packet) -> Result<Sent, Fault>
+    pub fn upload(&mut self, n: u8, packet: &mut Packet) -> Result<Sent, CommandError>
         ensures { Tells self.old.pages.layout.order (response_room self.old.pages.layout) (upload_row n self.old) (without_block self.old) result packet.new.items self.new }
     {
         self.give_up_block();
         if n == 0 {
-            return Err(Fault::Code(Code::OutOfRange));
+            return Err(CommandError::Code(Code::OutOfRange));
         }
         let room = self.pages.layout().max_cto() - 1;
         if n <= room {
@@ -72,12 +72,12 @@ impl Transfer {
         extension: u8,
         address: u32,
         packet: &mut Packet,
-    ) -> Result<Sent, Fault>
+    ) -> Result<Sent, CommandError>
         ensures { Tells self.old.pages.layout.order (response_room self.old.pages.layout) (short_upload_row n extension address self.old) (without_block self.old) result packet.new.items self.new }
     {
         self.give_up_block();
         if n == 0 || n > self.pages.layout().max_cto() - 1 || extension != 0 {
-            return Err(Fault::Code(Code::OutOfRange));
+            return Err(CommandError::Code(Code::OutOfRange));
         }
         self.mta = read(&self.pages, Mta::Memory(address), n, packet)?;
         Ok(Sent::Lent)
@@ -89,17 +89,17 @@ impl Transfer {
     /// where the size is no multiple of the words or double words that are summed; then `AccessDenied` where the bytes don't lie in one
     /// area, also nowhere and at a text.
     /// ASAM MCD-1 XCP, protocol layer, description of commands: BUILD_CHECKSUM.
-    pub fn build_checksum(&mut self, size: u32, packet: &mut Packet) -> Result<Sent, Fault>
+    pub fn build_checksum(&mut self, size: u32, packet: &mut Packet) -> Result<Sent, CommandError>
         ensures { Tells self.old.pages.layout.order (response_room self.old.pages.layout) (build_checksum_row size self.old) (without_block self.old) result packet.new.items self.new }
     {
         self.give_up_block();
         let greatest = self.pages.layout().class().limits().checksum;
         if size > greatest {
-            return Err(Fault::BlockSize(Code::OutOfRange, greatest));
+            return Err(CommandError::BlockSize(Code::OutOfRange, greatest));
         }
         let (sum, next) = checksum(&self.pages, self.mta, size)?;
         self.mta = next;
-        let kind = self.pages.layout().checksum().number();
+        let kind = self.pages.layout().checksum_kind().number();
         write_reply(packet, &Reply::Checksum { kind, sum }, self.order());
         Ok(Sent::Lent)
     }
@@ -109,7 +109,7 @@ impl Transfer {
     /// its EPK. Where there is no such text, length 0. It is never refused.
     ///
     /// ASAM MCD-1 XCP, protocol layer, description of commands: GET_ID.
-    pub fn get_id(&mut self, kind: u8, packet: &mut Packet) -> Result<Sent, Fault>
+    pub fn get_id(&mut self, kind: u8, packet: &mut Packet) -> Result<Sent, CommandError>
         ensures { Tells self.old.pages.layout.order (response_room self.old.pages.layout) (get_id_row kind self.old) (without_block self.old) result packet.new.items self.new }
     {
         self.give_up_block();

@@ -6,7 +6,7 @@ use Rattle.pin_core.specs.declared.events.Event.{Event}
 use Rattle.pin_core.specs.declared.events.Event.TheVariants.{Look}
 use Rattle.pin_core.specs.declared.events.Seen.{Seen}
 use Rattle.pin_core.specs.State.{PinState, width}
-use Rattle.pin_core.specs.Steps.{Runs, Steps, Refuses}
+use Rattle.pin_core.specs.Steps.{Runs, Steps, RefusesEvent}
 use Rattle.pin_core.proofs.StepLaws.{run_more}
 use Rattle.pin_core.proofs.runs.run.Goals as goal
 
@@ -16,8 +16,8 @@ returns-in-Err-clause-stopped c =
     let i : ℕ = c.loop-index.index in
     let events : List Event = c.args.events.now in
     let event : Event = get_or events i (Look 0) in
-    let refused : Refuses (width c.args.core.now) c.loop-index.core event c.in-Err.error = subst (λ (w : ℕ). Refuses w c.loop-index.core event c.in-Err.error) before.same c.in-Err.ensures.refused in
-    let both = subst (λ (t : PinState). Runs (width c.args.core.now) c.args.core.now (take i events) c.loop-index.answers.items t × Refuses (width c.args.core.now) t event c.in-Err.error)
+    let refused : RefusesEvent (width c.args.core.now) c.loop-index.core event c.in-Err.error = subst (λ (w : ℕ). RefusesEvent w c.loop-index.core event c.in-Err.error) before.same c.in-Err.ensures.refused in
+    let both = subst (λ (t : PinState). Runs (width c.args.core.now) c.args.core.now (take i events) c.loop-index.answers.items t × RefusesEvent (width c.args.core.now) t event c.in-Err.error)
     (sym c.in-Err.ensures.unchanged) (before.ran, refused) in
     (event, c.loop-index.answers.items, slice_get-get_or events i (Look 0) c.loop-index-test.true, both.0, both.1)
 

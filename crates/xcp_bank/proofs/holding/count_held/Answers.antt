@@ -1,6 +1,6 @@
 use Rattle.std.proofs.Common.{◌≡◌, ℕ, ap, ◌∙◌, arith, subst}
 use Rattle.xcp_bank.specs.SeatKnowledge.{Writing}
-use Rattle.xcp_bank.specs.private.SeatSteps.{Counted, Rests}
+use Rattle.xcp_bank.specs.private.SeatSteps.{HeldCounted, Rests}
 use Rattle.xcp_bank.proofs.WriterSeatLemmas.{desks_one}
 use Rattle.xcp_bank.proofs.ScanCountLemmas.{counted_none, counted_few, counted_skip, counted_quiet, counted_held}
 use Rattle.xcp_bank.proofs.holding.count_held.Goals as goal
@@ -48,4 +48,4 @@ pub returns : goal.returns
 returns c = λ w d.
     let end : c.loop-buffer.buffer ≡ 8 = (let a = c.loop-buffer-test.false in let b = c.loop-buffer.auto.buffer-end in omega arith) in
     let i = c.loop-buffer.invariant w d in
-    (i.0, i.1, subst (λ (n : ℕ). Counted n c.loop-buffer.held c.args.board.now.slots w i.0) end i.2)
+    (i.0, i.1, subst (λ (n : ℕ). HeldCounted n c.loop-buffer.held c.args.board.now.slots w i.0) end i.2)

@@ -1,5 +1,5 @@
 use Rattle.std.proofs.Common.{◌≡◌, ℕ, ◌+◌, ◌-◌, ◌*◌, ◌/◌, ◌<◌, [], length, get_or, refl, subst, arith}
-use Rattle.xcp_bank.specs.Images.{image_of}
+use Rattle.xcp_bank.specs.Images.{image_in_words}
 use Rattle.xcp_bank.specs.BankEnds.{words_in}
 use Rattle.xcp_bank.specs.private.SeatSteps.{HasRead}
 use Rattle.xcp_bank.proofs.ImageLemmas.{image_length, part_is}
@@ -17,5 +17,5 @@ returns c = λ r x s p holds.
       i.0,
       i.1,
       read,
-      part_is (8 * (c.args.board.now.slots - 1)) c.read_words.new.out (image_of (get_or x.list p [])) at n g.size inside (λ l. image_length c.args.board.now.slots (get_or x.list p []) (read.numbered (some l)).size) (λ j l. g.there r x p s holds j l (omega arith) (omega arith)),
+      part_is (8 * (c.args.board.now.slots - 1)) c.read_words.new.out (image_in_words (get_or x.list p [])) at n g.size inside (λ l. image_length c.args.board.now.slots (get_or x.list p []) (read.numbered (some l)).size) (λ j l. g.there r x p s holds j l (omega arith) (omega arith)),
     )

@@ -9,7 +9,7 @@ use Rattle.xcp_memory.specs.declared.Key.TheVariants as key
 use Rattle.xcp_memory.specs.ClassLimits.{limits_of}
 use Rattle.xcp_packet.specs.Rows.{first_holding}
 use Rattle.xcp_config.specs.Check.{Check}
-use Rattle.xcp_config.specs.TableLayout.{class_in, events_of}
+use Rattle.xcp_config.specs.TableLayout.{class_in, event_tables}
 use Rattle.xcp_memory.specs.Limits.{count_limits, event_counts}
 use Rattle.xcp_config.specs.TableChecks.{array_checks, event_checks, events_checks}
 use Rattle.xcp_config.specs.private.PartsRead.{event_written}
@@ -37,24 +37,24 @@ returns-in_err-members-clause-refused c =
     let t = view c.args.table.now in
     let p = err_from_is_err_and c.from_residual.result c.from_residual.ensures.1 in
     let limits = same_limits t c.args.class c.limits.result c.limits.ensures.value c.requires in
-    rw (p.1, p.2) (inr (holding_left (there t) (each (events_of t)) _ (limits ∙ c.in_err-members.ensures.refused)))
+    rw (p.1, p.2) (inr (holding_left (there t) (each (event_tables t)) _ (limits ∙ c.in_err-members.ensures.refused)))
 
 pub returns-clause-passes : goal.returns-clause-passes
 unfolding events_checks
 returns-clause-passes c =
     let t = view c.args.table.now in
-    let e : map view c.in_ok-members.members.now ≡ events_of t = c.in_ok-members.ensures.value in
-    if_ok c.read_each.result _ _ (λ _ h. none_left (there t) (each (events_of t)) (same_limits t c.args.class c.limits.result c.limits.ensures.value c.requires ∙ c.in_ok-members.ensures.passes) ∙ ap (λ ds. first_holding (each ds)) (sym e) ∙ h) c.read_each.ensures.passes
+    let e : map view c.in_ok-members.members.now ≡ event_tables t = c.in_ok-members.ensures.value in
+    if_ok c.read_each.result _ _ (λ _ h. none_left (there t) (each (event_tables t)) (same_limits t c.args.class c.limits.result c.limits.ensures.value c.requires ∙ c.in_ok-members.ensures.passes) ∙ ap (λ ds. first_holding (each ds)) (sym e) ∙ h) c.read_each.ensures.passes
 
 pub returns-clause-read : goal.returns-clause-read
 returns-clause-read c =
     let t = view c.args.table.now in
-    let e : map view c.in_ok-members.members.now ≡ events_of t = c.in_ok-members.ensures.value in
+    let e : map view c.in_ok-members.members.now ≡ event_tables t = c.in_ok-members.ensures.value in
     if_ok c.read_each.result _ _ (λ _ h. h ∙ ap (map event_written) e) c.read_each.ensures.read
 
 pub returns-clause-refused : goal.returns-clause-refused
 unfolding events_checks
 returns-clause-refused c =
     let t = view c.args.table.now in
-    let e : map view c.in_ok-members.members.now ≡ events_of t = c.in_ok-members.ensures.value in
-    if_err c.read_each.result _ _ (λ f h. or_so h (λ k. none_left (there t) (each (events_of t)) (same_limits t c.args.class c.limits.result c.limits.ensures.value c.requires ∙ c.in_ok-members.ensures.passes) ∙ ap (λ ds. first_holding (each ds)) (sym e) ∙ k)) c.read_each.ensures.refused
+    let e : map view c.in_ok-members.members.now ≡ event_tables t = c.in_ok-members.ensures.value in
+    if_err c.read_each.result _ _ (λ f h. or_so h (λ k. none_left (there t) (each (event_tables t)) (same_limits t c.args.class c.limits.result c.limits.ensures.value c.requires ∙ c.in_ok-members.ensures.passes) ∙ ap (λ ds. first_holding (each ds)) (sym e) ∙ k)) c.read_each.ensures.refused

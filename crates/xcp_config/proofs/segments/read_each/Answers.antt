@@ -6,7 +6,7 @@ use Rattle.toml.specs.View.{view}
 use Rattle.xcp_packet.specs.Rows.{first_holding}
 use Rattle.xcp_config.specs.TableChecks.{checks_in}
 use Rattle.xcp_config.specs.TableLayout.{Filed, filed, size_of}
-use Rattle.xcp_config.specs.private.PartsRead.{Segment, segment_read, segment_written}
+use Rattle.xcp_config.specs.private.PartsRead.{ReadSegment, segment_read, segment_in_parts}
 use Rattle.xcp_config.proofs.CheckLemmas.{or_so}
 use Rattle.xcp_config.proofs.ArrayMemberLemmas.{seen, filed_at, length-filed, sum_here, one_more_read, segment_passed, segment_failed}
 use Rattle.xcp_config.proofs.segments.read_each.Goals as goal
@@ -34,11 +34,11 @@ loop-i-preserved c =
     let s : Filed = (get_or files i None, view x) in
     let part = c.in_ok-part.part in
     let long : c.len-total.result ≡ length part.bytes.items = search rules in
-    let size : length part.bytes.items ≡ size_of s = ap (λ (y : Segment). length y.bytes) c.in_ok-part.ensures.read in
+    let size : length part.bytes.items ≡ size_of s = ap (λ (y : ReadSegment). length y.bytes) c.in_ok-part.ensures.read in
     let sum = sum_here size_of (filed files ds) i s n.below n.is in
     record {
       checked = c.loop-i.invariant.checked ∙ segment_passed c.args.class (filed files ds) i c.loop-i.total s n.below n.is c.loop-i.invariant.total c.in_ok-part.ensures.passes;
-      read = ap (map segment_read) c.in_ok-push.ensures.items ∙ one_more_read segment_read segment_written c.loop-i.parts.items (filed files ds) i part s n.below n.is c.loop-i.invariant.read c.in_ok-part.ensures.read;
+      read = ap (map segment_read) c.in_ok-push.ensures.items ∙ one_more_read segment_read segment_in_parts c.loop-i.parts.items (filed files ds) i part s n.below n.is c.loop-i.invariant.read c.in_ok-part.ensures.read;
       total = omega (arith, long, size, sum, c.loop-i.invariant.total);
       room = omega (arith, long, c.in_ok-part.ensures.room);
     }
@@ -57,4 +57,4 @@ returns-clause-read c =
     let ds = map view c.args.members.now in
     let i = c.loop-i.i in
     let past : length (filed files ds) ≤ i = omega (arith, length-filed files ds, length-map c.args.members.now view, c.loop-i-test.false) in
-    c.loop-i.invariant.read ∙ ap (map segment_written) (take_all i (filed files ds) past)
+    c.loop-i.invariant.read ∙ ap (map segment_in_parts) (take_all i (filed files ds) past)

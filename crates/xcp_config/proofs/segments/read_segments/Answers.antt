@@ -12,7 +12,7 @@ use Rattle.xcp_config.specs.Check.{Check}
 use Rattle.xcp_config.specs.TableLayout.{File, Filed, class_in, filed, segment_tables, segments_of}
 use Rattle.xcp_memory.specs.Limits.{count_limits, segment_counts}
 use Rattle.xcp_config.specs.TableChecks.{array_checks, checks_in, segments_checks}
-use Rattle.xcp_config.specs.private.PartsRead.{segment_written}
+use Rattle.xcp_config.specs.private.PartsRead.{segment_in_parts}
 use Rattle.xcp_packet.proofs.RowTestLemmas.{holding_left, none_left}
 use Rattle.xcp_config.proofs.CheckLemmas.{if_ok, if_err, or_so}
 use Rattle.xcp_config.proofs.segments.read_segments.Goals as goal
@@ -54,7 +54,7 @@ pub returns-clause-read : goal.returns-clause-read
 returns-clause-read c =
     let t = view c.args.table.now in
     let e : map view c.in_ok-members.members.now ≡ segment_tables t = c.in_ok-members.ensures.value in
-    if_ok c.read_each.result _ _ (λ _ h. h ∙ ap (λ (ds : List Data). map segment_written (filed c.args.files.now ds)) e) c.read_each.ensures.read
+    if_ok c.read_each.result _ _ (λ _ h. h ∙ ap (λ (ds : List Data). map segment_in_parts (filed c.args.files.now ds)) e) c.read_each.ensures.read
 
 pub returns-clause-refused : goal.returns-clause-refused
 unfolding segments_checks

@@ -5,4 +5,4 @@ use Rattle.xcp_controller.proofs.ChangedImageLemmas.{all-within, image-long}
 use Rattle.xcp_controller.proofs.changing.whole.Goals as goal
 
 pub returns-clause-outside : goal.returns-clause-outside
-returns-clause-outside c before = all-within before (image_of c.args.slave.now) c.image_size.result (image-long c.args.slave.now c.audit.ensures.transfer ∙ sym (c.image_size.ensures.value ∙ ap image_size c.layout.ensures))
+returns-clause-outside c before = all-within before (image_of c.args.slave.now) c.image_size.result (image-long c.args.slave.now c.known.ensures.transfer ∙ sym (c.image_size.ensures.value ∙ ap image_size c.layout.ensures))

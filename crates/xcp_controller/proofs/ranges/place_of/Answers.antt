@@ -8,7 +8,7 @@ use Rattle.xcp_controller.proofs.ranges.place_of.Goals as goal
 pub overflow_add-at : goal.overflow_add-at
 overflow_add-at c =
     let room = place-room c.args.layout.now c.loop-before.before (omega (arith, c.requires, c.loop-before-test.true)) in
-    omega (arith, room, c.audit.ensures.total, class_most c.args.layout.now.class, c.loop-before.invariant, c.segment_size-at.ensures.value)
+    omega (arith, room, c.known.ensures.total, class_most c.args.layout.now.class, c.loop-before.invariant, c.segment_size-at.ensures.value)
 
 pub loop-before-preserved : goal.loop-before-preserved
 loop-before-preserved c =
@@ -23,10 +23,10 @@ pub returns-clause-room : goal.returns-clause-room
 returns-clause-room c =
     let l = c.args.layout.now in
     let end : c.loop-before.before ≡ c.args.segment = omega (arith, c.loop-before-test.false, c.loop-before.auto.before-end) in
-    omega (arith, place-room l c.args.segment c.requires, here l _ c.args.segment c.loop-before.at c.loop-before.invariant end, size_room l.class (bytes_in_all l) c.audit.ensures.total)
+    omega (arith, place-room l c.args.segment c.requires, here l _ c.args.segment c.loop-before.at c.loop-before.invariant end, size_room l.class (bytes_in_all l) c.known.ensures.total)
 
 pub returns-clause-bound : goal.returns-clause-bound
 returns-clause-bound c =
     let l = c.args.layout.now in
     let end : c.loop-before.before ≡ c.args.segment = omega (arith, c.loop-before-test.false, c.loop-before.auto.before-end) in
-    omega (arith, place-room l c.args.segment c.requires, here l _ c.args.segment c.loop-before.at c.loop-before.invariant end, c.audit.ensures.total, class_most l.class)
+    omega (arith, place-room l c.args.segment c.requires, here l _ c.args.segment c.loop-before.at c.loop-before.invariant end, c.known.ensures.total, class_most l.class)

@@ -3,7 +3,7 @@ use Rattle.std.proofs.lemmas.List.{take_all}
 use Rattle.byteorder.specs.Endian.{little_number}
 use Rattle.xcp_framing.specs.Wire.{IsUnfinished, len_of}
 use Rattle.xcp_framing.proofs.WholeFrameLaws.{no_some}
-use Rattle.xcp_datagrams.specs.Numbers.{Hears}
+use Rattle.xcp_datagrams.specs.Numbers.{CountsFrame}
 use Rattle.xcp_datagrams.proofs.FrontLemmas.{head_step, slice_all}
 use Rattle.xcp_datagrams.proofs.NumberLemmas.{heard_all, heard_one}
 use Rattle.xcp_datagrams.proofs.numbering.note_frames.Goals as goal
@@ -21,7 +21,7 @@ loop-size-preserved c =
     let ctr : c.read_u16.result ≡ little_number 2 (drop (at + 2) s) = c.read_u16.ensures ∙ ap (little_number 2) (slice_all (at + 2) s) in
     record {
       within = (head_step m at k s size allowed there).2;
-      heard = heard_one m at k s _ _ _ c.loop-size.invariant.heard size allowed there (subst (λ (n : ℕ). Hears c.loop-size.numbering n c.note.new.self) ctr c.note.ensures);
+      heard = heard_one m at k s _ _ _ c.loop-size.invariant.heard size allowed there (subst (λ (n : ℕ). CountsFrame c.loop-size.numbering n c.note.new.self) ctr c.note.ensures);
     }
 
 pub returns : goal.returns

@@ -3,7 +3,7 @@ use Rattle.std.proofs.lemmas.Bool.Decides.{nat_tests}
 use Rattle.std.proofs.lemmas.List.{length-take}
 use Rattle.xcp_framing.specs.Wire.{IsUnfinished, len_of}
 use Rattle.xcp_framing.proofs.WholeFrameLaws.{no_some}
-use Rattle.xcp_datagrams.specs.Datagrams.{IsWhole, fits}
+use Rattle.xcp_datagrams.specs.Datagrams.{IsWholeFrames, fits}
 use Rattle.xcp_datagrams.proofs.FrontLemmas.{head_step, none_fits, none_left_more, short_front, slice_all, unfinished_front}
 use Rattle.xcp_datagrams.proofs.packing.filling.Goals.{in-Some+then-at-size-gt-LONGEST, in_default}
 use Rattle.xcp_datagrams.proofs.packing.filling.Goals as goal

@@ -9,14 +9,14 @@ use Rattle.xcp_memory.specs.ComputedAccess.{lies_inside}
 use Rattle.xcp_describe.specs.declared.refusal.Why.{Why}
 use Rattle.xcp_describe.specs.declared.refusal.Why.TheVariants.{Event, NoMemory, Taken}
 use Rattle.xcp_describe.specs.EntryFaults.{entry_faults, meaning_faults}
-use Rattle.xcp_describe.specs.EntryValues.{bytes_in, first_of, is_event, name_of, type_of}
-use Rattle.xcp_describe.specs.UnreadKeys.{is_among}
+use Rattle.xcp_describe.specs.EntryValues.{value_bytes, first_of, is_event, name_of, type_of}
+use Rattle.xcp_describe.specs.UnreadKeys.{is_key_among}
 use Rattle.xcp_describe.specs.private.EntriesRead.{names_of}
 use Rattle.xcp_describe.proofs.tables.measurement.Goals as goal
 
 -- the faults behind those of the entry by itself
 abbrev behind : LayoutValue → List (List ℕ) → Data → List (Bool × Why)
-behind l names d = (is_among (name_of d) names, Taken) ∷ must (lies_inside l (first_of d) (bytes_in d)) NoMemory ∷ must (is_event (length l.events) d) Event ∷ meaning_faults (type_of d) d
+behind l names d = (is_key_among (name_of d) names, Taken) ∷ must (lies_inside l (first_of d) (value_bytes d)) NoMemory ∷ must (is_event (length l.events) d) Event ∷ meaning_faults (type_of d) d
 
 pub returns-in_err-entry-clause-refused : goal.returns-in_err-entry-clause-refused
 returns-in_err-entry-clause-refused c =

@@ -1,7 +1,7 @@
 use Rattle.std.proofs.Common.{◌≡◌, ap, refl, subst}
 use Rattle.std.specs.Prelude.{Err}
 use Rattle.xcp_flash.specs.declared.fault.FlashError.{FlashError}
-use Rattle.xcp_flash.specs.Restoring.{IsFault}
+use Rattle.xcp_flash.specs.Restoring.{IsFlashFault}
 use Rattle.xcp_flash.proofs.FaultLemmas.{file_begins, is_file, no_fault, one_fault}
 use Rattle.xcp_flash.proofs.restoring.restore.Goals as goal
 
@@ -31,6 +31,6 @@ returns-in-Err-clause-fault c = λ e.
     let d = c.args.layout_digest.now in
     let file = c.args.file.now in
     let fault = (c.in-Err.ensures {u = tt}).err in (
-      (λ h. let same : c.in-Err.fault ≡ e = cc in subst (λ (x : FlashError). IsFault l d file x) same fault),
+      (λ h. let same : c.in-Err.fault ≡ e = cc in subst (λ (x : FlashError). IsFlashFault l d file x) same fault),
       λ other. ap (λ (x : FlashError). Err x) (one_fault l d file c.in-Err.fault e c.told-layout_digest fault other),
     )

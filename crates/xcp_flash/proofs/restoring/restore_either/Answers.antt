@@ -2,7 +2,7 @@ use Rattle.std.proofs.Common.{◌≡◌, ◌⊎◌, inl, inr, ◌∙◌, ap, ref
 use Rattle.std.specs.Prelude.{Err}
 use Rattle.xcp_memory.specs.Layout.{LayoutValue}
 use Rattle.xcp_flash.specs.References.{with_references}
-use Rattle.xcp_flash.specs.Restoring.{IsFault, told_of}
+use Rattle.xcp_flash.specs.Restoring.{IsFlashFault, fault_to_tell}
 use Rattle.xcp_flash.specs.declared.fault.FlashError.{FlashError}
 use Rattle.xcp_flash.proofs.FaultLemmas.{one_content, one_fault}
 use Rattle.xcp_flash.proofs.restoring.restore_either.Goals as goal
@@ -26,7 +26,7 @@ returns-in_default-restore-clause-fault c = λ e.
     let same = c.in-Err.ensures.err in (
       (λ h. cc),
       λ both.
-          let found = (c.in_default-restore.ensures.fault both.second).1 (subst (λ (l : LayoutValue). IsFault l c.args.other.now c.args.file.now both.second) (sym same) both.of_other) in
+          let found = (c.in_default-restore.ensures.fault both.second).1 (subst (λ (l : LayoutValue). IsFlashFault l c.args.other.now c.args.file.now both.second) (sym same) both.of_other) in
           absurd cc,
     )
 
@@ -37,11 +37,11 @@ returns-clause-fault c = λ e.
     let same = c.in-Err.ensures.err in
     let first = c.in-Err.first in
     let second = c.in-Err-restore.second in
-    let is_first : IsFault l c.args.layout_digest.now file first = (c.in-Err.ensures.fault first).0 refl in
-    let is_second : IsFault l c.args.other.now file second = subst (λ (x : LayoutValue). IsFault x c.args.other.now file second) same ((c.in-Err-restore.ensures.fault second).0 refl) in (
+    let is_first : IsFlashFault l c.args.layout_digest.now file first = (c.in-Err.ensures.fault first).0 refl in
+    let is_second : IsFlashFault l c.args.other.now file second = subst (λ (x : LayoutValue). IsFlashFault x c.args.other.now file second) same ((c.in-Err-restore.ensures.fault second).0 refl) in (
       (λ h. record { first = first; second = second; of_first = is_first; of_other = is_second; told = cc }),
       λ both.
           let one = one_fault l _ file first both.first c.told-layout_digest is_first both.of_first in
           let two = one_fault l _ file second both.second c.told-other is_second both.of_other in
-          ap (λ (x : FlashError). Err x) (c.told_of.ensures ∙ ap (λ (x : FlashError). told_of x second) one ∙ ap (λ (x : FlashError). told_of both.first x) two ∙ sym both.told),
+          ap (λ (x : FlashError). Err x) (c.told_of.ensures ∙ ap (λ (x : FlashError). fault_to_tell x second) one ∙ ap (λ (x : FlashError). fault_to_tell both.first x) two ∙ sym both.told),
     )

@@ -1,5 +1,5 @@
 use Rattle.std.proofs.Common.{ℕ, arith}
-use Rattle.xcp_framing.specs.ServeRefusal.{Refused}
+use Rattle.xcp_framing.specs.ServeRefusal.{StationRefused}
 use Rattle.xcp_framing.specs.Pump.{DrainAgain}
 use Rattle.xcp_framing.proofs.ExchangeLemmas.{passed_on}
 use Rattle.xcp_framing.proofs.ServeRefusalLemmas.{on_refusal_map, refused_more}
@@ -17,8 +17,8 @@ returns-in_err-drained-clause-refused g c =
     let so = c.loop-turn.invariant.pumps in
     rw (passed_on c.from_residual-in_err-drained.result c.in_err-drained.field-0.0 c.from_residual-in_err-drained.ensures.1)
     (on_refusal_map ℕ ℕ c.in_err-drained.field-0.0
-    (λ e. Refused g.S.Station.exchanges g.S.Station.refuses e DrainAgain (g.S.Station.exchanges c.loop-turn.station) c.drain_into.new.self)
-    (λ e. Refused g.S.Station.exchanges g.S.Station.refuses e DrainAgain (g.S.Station.exchanges c.args.station.now) c.drain_into.new.self)
+    (λ e. StationRefused g.S.Station.exchanges g.S.Station.refuses e DrainAgain (g.S.Station.exchanges c.loop-turn.station) c.drain_into.new.self)
+    (λ e. StationRefused g.S.Station.exchanges g.S.Station.refuses e DrainAgain (g.S.Station.exchanges c.args.station.now) c.drain_into.new.self)
     (λ e r. refused_more g.S.Station.exchanges g.S.Station.refuses e DrainAgain DrainAgain so.exchanges so.grown (λ ys q n. again so.exchanges ys q so.drains n) r) c.in_err-drained.ensures.refused)
 
 pub returns-in_err-hand_on-clause-pumps : goal.returns-in_err-hand_on-clause-pumps

@@ -5,12 +5,12 @@ use Rattle.xcp_slave.specs.AnswerInBytes.{answer_in}
 use Rattle.xcp_slave.specs.declared.Outcome.TheVariants as outcomes
 use Rattle.xcp_slave.specs.declared.Cut.{Cut}
 use Rattle.xcp_slave.specs.declared.Cut.TheVariants as cuts
-use Rattle.xcp_framing.specs.Serve.{packet_of}
+use Rattle.xcp_framing.specs.Serve.{packets_in_answer}
 use Rattle.xcp_framing.proofs.ExchangeLemmas.{cons≢nil}
 use Rattle.xcp_framing.proofs.serving.has_packets.Goals as goal
 
 -- however it is cut, an answer with packets has one
-some : (cut : Cut) (packet : ArrayVec ℕ) → packet_of (answer_in (outcomes.Packets cut) packet) ≢ []
+some : (cut : Cut) (packet : ArrayVec ℕ) → packets_in_answer (answer_in (outcomes.Packets cut) packet) ≢ []
 some cuts.Whole packet = λ e. cons≢nil e
 some (cuts.Block width) packet = λ e. let b = block_begins width packet.items in cons≢nil (sym b.2 ∙ e)
 

@@ -1,6 +1,6 @@
 use Rattle.std.proofs.Common.{◌≡◌, ◌+◌, ◌∙◌, ap, sym, arith, length, subst, refl}
 use Rattle.std.proofs.lemmas.List.{get_or_default}
-use Rattle.xcp_locked.specs.private.NoChapter.{no_chapter}
+use Rattle.xcp_locked.specs.private.NoChapter.{empty_chapter}
 use Rattle.xcp_locked.proofs.JoiningLemmas.{AreFirst, first_more, end_before, end_is, gap_here, gap_open}
 use Rattle.xcp_locked.proofs.joining.check_joined.Goals as goal
 use Rattle.xcp_locked.proofs.joining.check_joined.Goals.{then-number-k-via-then-number-k, then-number-k-via-else-number-k+then-before-calls, then-number-k-via-else-number-k+else-before-calls+then-not-follows, then-chapter-last-via-then-chapter-last, then-chapter-last-via-else-chapter-last+then-before-calls-2, then-chapter-last-via-else-chapter-last+else-before-calls-2+then-not-follows-2}
@@ -13,7 +13,7 @@ loop-k-preserved g c =
     let low = c.loop-k-test.true in
     let sum : chapter.before + length chapter.entries ≡ c.before-in-loop-k.result + c.len.result = (λ i. sym c.before-in-loop-k.ensures i + sym c.len.ensures i) in
     subst (λ n. AreFirst g.N.Name.layout cs (k + 1) n) sum
-    (first_more g.N.Name.layout cs k c.loop-k.calls chapter c.loop-k.invariant low (c.index-chapters-k.is ∙ get_or_default cs k chapter no_chapter low) (sym c.number.ensures ∙ c.if-number-k.false) (sym c.before-else-number-k.ensures ∙ c.if-before-calls.false) (λ more. sym c.base.ensures ∙ (c.if-not-follows.ensures {u = tt}).yes refl more) c.audit.ensures.run c.audit.ensures.reached)
+    (first_more g.N.Name.layout cs k c.loop-k.calls chapter c.loop-k.invariant low (c.index-chapters-k.is ∙ get_or_default cs k chapter empty_chapter low) (sym c.number.ensures ∙ c.if-number-k.false) (sym c.before-else-number-k.ensures ∙ c.if-before-calls.false) (λ more. sym c.base.ensures ∙ (c.if-not-follows.ensures {u = tt}).yes refl more) c.known.ensures.run c.known.ensures.reached)
 
 pub returns-then-number-k-clause-gap : goal.returns-then-number-k-clause-gap
 returns-then-number-k-clause-gap g c =

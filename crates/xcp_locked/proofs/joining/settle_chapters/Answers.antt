@@ -18,7 +18,7 @@ returns-in-Ok-clause-whole g c =
     subst (λ (z : LockedValue). IsWhole g.N.Name.layout z cs c.args.callers.now) c.gather.ensures.same
     (subst (λ (z : List CallerValue). IsWhole g.N.Name.layout l cs z) c.gather.ensures.callers (record {
       joined = joined;
-      run = whole_run g.N.Name.layout cs l.chapter l.before l.base l.slave l.journal joined c.audit.ensures.run;
+      run = whole_run g.N.Name.layout cs l.chapter l.before l.base l.slave l.journal joined c.known.ensures.run;
       settled = λ k chapter low there. c.loop-k.invariant k chapter (omega (arith, low, end)) there;
       last = c.in-Ok.ensures.all;
     }))

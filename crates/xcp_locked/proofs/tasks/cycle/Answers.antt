@@ -1,5 +1,5 @@
 use Rattle.std.proofs.Common.{rules, ◌≡◌, ℕ, ◌+◌, List, [], ◌∷◌, Bool, true, false, true≢false, refl, sym, subst}
-use Rattle.xcp_locked.specs.Tasks.{Duty, Grew, closing_of, duty, event_of}
+use Rattle.xcp_locked.specs.Tasks.{Duty, Grew, closing_of, duty, cycle_event}
 use Rattle.xcp_bank.specs.BankEnds.{ReaderEnd}
 use Rattle.xcp_locked.specs.TaskImages.{IsTold, Took}
 use Rattle.xcp_locked.specs.private.TaskSteps.{Adds}
@@ -23,33 +23,33 @@ pub returns-in-Err-clause-grew : goal.returns-in-Err-clause-grew
 returns-in-Err-clause-grew g c old n is gr =
     let p : Duty = duty c.args.worker.now.caller c.args.task in
     let k : ℕ = c.args.cycle in
-    let a : Adds (event_of p k ∷ []) c.args.worker.now.caller.receipts c.raise.new.caller.receipts = search rules in
+    let a : Adds (cycle_event p k ∷ []) c.args.worker.now.caller.receipts c.raise.new.caller.receipts = search rules in
     let e : c.close.new.caller.receipts ≡ c.raise.new.caller.receipts = search rules in
     subst (λ (z : List Receipt). Grew p (n + 1) false old z) (sym e)
     (subst (λ (j : ℕ). Grew p (j + 1) false old c.raise.new.caller.receipts) (sym is) (event_done p k old _ _ (subst (λ (j : ℕ). Grew p j true old c.args.worker.now.caller.receipts) is gr) a))
 
 -- the whole cycle was submitted
-whole_cycle : (p : Duty) (k n : ℕ) (whole : Bool) (old was mid now : List Receipt) → n ≡ k → Grew p n true old was → Adds (event_of p k ∷ []) was mid → Adds (closing_of p) mid now → Grew p (n + 1) whole old now
+whole_cycle : (p : Duty) (k n : ℕ) (whole : Bool) (old was mid now : List Receipt) → n ≡ k → Grew p n true old was → Adds (cycle_event p k ∷ []) was mid → Adds (closing_of p) mid now → Grew p (n + 1) whole old now
 whole_cycle p k n whole old was mid now is gr a b = subst (λ (j : ℕ). Grew p (j + 1) whole old now) (sym is) (all_done p k whole old was mid now (subst (λ (j : ℕ). Grew p j true old was) is gr) a b)
 
 pub returns-in-Some-cut_full-clause-grew : goal.returns-in-Some-cut_full-clause-grew
 returns-in-Some-cut_full-clause-grew g c old n is gr =
     let p : Duty = duty c.args.worker.now.caller c.args.task in
-    let a : Adds (event_of p c.args.cycle ∷ []) c.args.worker.now.caller.receipts c.raise.new.caller.receipts = search rules in
+    let a : Adds (cycle_event p c.args.cycle ∷ []) c.args.worker.now.caller.receipts c.raise.new.caller.receipts = search rules in
     let b : Adds (closing_of p) c.raise.new.caller.receipts c.close.new.caller.receipts = search rules in
     whole_cycle p c.args.cycle n false old _ _ _ is gr a b
 
 pub returns-then-not-after-clause-grew : goal.returns-then-not-after-clause-grew
 returns-then-not-after-clause-grew g c old n is gr =
     let p : Duty = duty c.args.worker.now.caller c.args.task in
-    let a : Adds (event_of p c.args.cycle ∷ []) c.args.worker.now.caller.receipts c.raise.new.caller.receipts = search rules in
+    let a : Adds (cycle_event p c.args.cycle ∷ []) c.args.worker.now.caller.receipts c.raise.new.caller.receipts = search rules in
     let b : Adds (closing_of p) c.raise.new.caller.receipts c.close.new.caller.receipts = search rules in
     whole_cycle p c.args.cycle n false old _ _ _ is gr a b
 
 pub returns-clause-grew : goal.returns-clause-grew
 returns-clause-grew g c old n is gr =
     let p : Duty = duty c.args.worker.now.caller c.args.task in
-    let a : Adds (event_of p c.args.cycle ∷ []) c.args.worker.now.caller.receipts c.raise.new.caller.receipts = search rules in
+    let a : Adds (cycle_event p c.args.cycle ∷ []) c.args.worker.now.caller.receipts c.raise.new.caller.receipts = search rules in
     let b : Adds (closing_of p) c.raise.new.caller.receipts c.close.new.caller.receipts = search rules in
     whole_cycle p c.args.cycle n true old _ _ _ is gr a b
 
@@ -69,28 +69,28 @@ returns-in-Some-clause-took g c =
 
 pub returns-in-Err-clause-took : goal.returns-in-Err-clause-took
 returns-in-Err-clause-took g c =
-    let t : IsTold g.N.Name.layout c.args.worker.now.caller.number (event_of (duty c.args.worker.now.caller c.args.task) c.args.cycle) c.args.worker.now.caller.receipts c.raise.new.caller.receipts c.args.worker.now.reader c.raise.new.reader = search rules in
+    let t : IsTold g.N.Name.layout c.args.worker.now.caller.number (cycle_event (duty c.args.worker.now.caller c.args.task) c.args.cycle) c.args.worker.now.caller.receipts c.raise.new.caller.receipts c.args.worker.now.reader c.raise.new.reader = search rules in
     took_it false _ _ _ _ (took_told _ _ _ _ _ _ _ _ _ _ t c.take_image.ensures.seen c.take_image.ensures.took)
 
 pub returns-in-Some-cut_full-clause-took : goal.returns-in-Some-cut_full-clause-took
 returns-in-Some-cut_full-clause-took g c =
-    let t : IsTold g.N.Name.layout c.args.worker.now.caller.number (event_of (duty c.args.worker.now.caller c.args.task) c.args.cycle) c.args.worker.now.caller.receipts c.raise.new.caller.receipts c.args.worker.now.reader c.raise.new.reader = search rules in
+    let t : IsTold g.N.Name.layout c.args.worker.now.caller.number (cycle_event (duty c.args.worker.now.caller c.args.task) c.args.cycle) c.args.worker.now.caller.receipts c.raise.new.caller.receipts c.args.worker.now.reader c.raise.new.reader = search rules in
     took_it false _ _ _ _ (took_told _ _ _ _ _ _ _ _ _ _ t c.take_image.ensures.seen c.take_image.ensures.took)
 
 pub returns-then-not-after-clause-took : goal.returns-then-not-after-clause-took
 returns-then-not-after-clause-took g c =
-    let t : IsTold g.N.Name.layout c.args.worker.now.caller.number (event_of (duty c.args.worker.now.caller c.args.task) c.args.cycle) c.args.worker.now.caller.receipts c.raise.new.caller.receipts c.args.worker.now.reader c.raise.new.reader = search rules in
+    let t : IsTold g.N.Name.layout c.args.worker.now.caller.number (cycle_event (duty c.args.worker.now.caller c.args.task) c.args.cycle) c.args.worker.now.caller.receipts c.raise.new.caller.receipts c.args.worker.now.reader c.raise.new.reader = search rules in
     took_it false _ _ _ _ (took_told _ _ _ _ _ _ _ _ _ _ t c.take_image.ensures.seen c.take_image.ensures.took)
 
 pub returns-clause-took : goal.returns-clause-took
 returns-clause-took g c =
-    let t : IsTold g.N.Name.layout c.args.worker.now.caller.number (event_of (duty c.args.worker.now.caller c.args.task) c.args.cycle) c.args.worker.now.caller.receipts c.raise.new.caller.receipts c.args.worker.now.reader c.raise.new.reader = search rules in
+    let t : IsTold g.N.Name.layout c.args.worker.now.caller.number (cycle_event (duty c.args.worker.now.caller c.args.task) c.args.cycle) c.args.worker.now.caller.receipts c.raise.new.caller.receipts c.args.worker.now.reader c.raise.new.reader = search rules in
     took_told _ _ _ _ _ _ _ _ _ _ t c.take_image.ensures.seen c.take_image.ensures.took
 
 pub returns-clause-fresh : goal.returns-clause-fresh
 returns-clause-fresh g c none =
     let p : Duty = duty c.args.worker.now.caller c.args.task in
-    let t : IsTold g.N.Name.layout c.args.worker.now.caller.number (event_of (duty c.args.worker.now.caller c.args.task) c.args.cycle) c.args.worker.now.caller.receipts c.raise.new.caller.receipts c.args.worker.now.reader c.raise.new.reader = search rules in
+    let t : IsTold g.N.Name.layout c.args.worker.now.caller.number (cycle_event (duty c.args.worker.now.caller c.args.task) c.args.cycle) c.args.worker.now.caller.receipts c.raise.new.caller.receipts c.args.worker.now.reader c.raise.new.reader = search rules in
     let b : Adds (closing_of p) c.raise.new.caller.receipts c.close.new.caller.receipts = search rules in
     is_fresh _ p c.args.cycle _ _ _ _ _ _ _ t b c.take_image.ensures.seen c.take_image.ensures.newest
 

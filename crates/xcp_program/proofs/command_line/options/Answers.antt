@@ -4,7 +4,7 @@ use Rattle.clap.specs.Words.{App, HasKind, Kinds, Row, Text, fault_of, kind_of, 
 use Rattle.clap.specs.declared.error.Error.{Error}
 use Rattle.clap.specs.declared.error.kind.ErrorKind.TheVariants.{OutOfMemory}
 use Rattle.xcp_program.specs.CommandLine.{Asks, AsksForOneFile, AsksToCut, AsksToEnd, AsksToStay, AsksTooMany, IsMistake, IsRefusedFor, program}
-use Rattle.xcp_program.specs.private.AppArguments.{AsksSomething, IsRefusal}
+use Rattle.xcp_program.specs.private.AppArguments.{AsksSomething, IsAskedRefusal}
 use Rattle.xcp_program.specs.declared.purpose.Options.{Options}
 use Rattle.xcp_program.specs.declared.purpose.OptionsFault.{OptionsFault}
 use Rattle.xcp_program.specs.declared.purpose.OptionsFault.TheVariants.{Memory, NotForStay, OneFile, OnlyForJournal, OnlyForStay, TooManyTools, Words}
@@ -39,7 +39,7 @@ of_error kinds found e f has memory which =
     ]
 
 -- a refusal of words in which clap finds no fault is one of six
-of_refusal : (found : Option (Text × List Row)) (f : OptionsFault) → IsRefusal found f → (f ≡ Memory) ⊎ (f ≡ TooManyTools) ⊎ (f ≡ NotForStay) ⊎ (f ≡ OnlyForStay) ⊎ (f ≡ OnlyForJournal) ⊎ (f ≡ OneFile)
+of_refusal : (found : Option (Text × List Row)) (f : OptionsFault) → IsAskedRefusal found f → (f ≡ Memory) ⊎ (f ≡ TooManyTools) ⊎ (f ≡ NotForStay) ⊎ (f ≡ OnlyForStay) ⊎ (f ≡ OnlyForJournal) ⊎ (f ≡ OneFile)
 of_refusal found Memory h = inl refl
 of_refusal found (Words e) h = absurd h
 of_refusal found TooManyTools h = inr (inl refl)
@@ -49,7 +49,7 @@ of_refusal found OnlyForJournal h = inr (inr (inr (inr (inl refl))))
 of_refusal found OneFile h = inr (inr (inr (inr (inr refl))))
 
 -- and says why, of the rows that the words have
-to_mistake : (found named : Option (Text × List Row)) (kinds : Kinds) → found ≡ named → kinds ≡ [] → (f : OptionsFault) → IsRefusal found f → IsMistake kinds named f
+to_mistake : (found named : Option (Text × List Row)) (kinds : Kinds) → found ≡ named → kinds ≡ [] → (f : OptionsFault) → IsAskedRefusal found f → IsMistake kinds named f
 to_mistake found named kinds same none Memory h = tt
 to_mistake found named kinds same none (Words e) h = absurd h
 to_mistake found named kinds same none TooManyTools h = (none, subst AsksTooMany same h)
@@ -89,7 +89,7 @@ returns-in-Ok-clause-apart c =
     IfOk-weaker c.asked.result _ _ (λ o h. files_apart named o h) (returns-in-Ok-clause-asked c)
 
 -- so do the words, whose rows are those of the matches
-told_of : (found named : Option (Text × List Row)) (r : Result Options OptionsFault) → found ≡ named → IfOk r (λ o. Asks found o) → IfErr r (λ e. IsRefusal found e) → (f : OptionsFault) → IsRefusedFor named f → (r ≡ Err f) ⊎ (r ≡ Err Memory)
+told_of : (found named : Option (Text × List Row)) (r : Result Options OptionsFault) → found ≡ named → IfOk r (λ o. Asks found o) → IfErr r (λ e. IsAskedRefusal found e) → (f : OptionsFault) → IsRefusedFor named f → (r ≡ Err f) ⊎ (r ≡ Err Memory)
 told_of found named r same h k f because = told found r h k f (subst (λ (o : Option (Text × List Row)). IsRefusedFor o f) (sym same) because)
 
 pub returns-in-Ok-clause-told : goal.returns-in-Ok-clause-told

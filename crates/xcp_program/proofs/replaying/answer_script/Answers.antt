@@ -3,7 +3,7 @@ use Rattle.xcp_memory.specs.Layout.{LayoutValue}
 use Rattle.xcp_slave.specs.SlaveValue.{SlaveValue, layout_of, opening}
 use Rattle.xcp_slave.specs.Run.{Run, requests_of}
 use Rattle.xcp_framing.specs.Desk.{DeskValue}
-use Rattle.xcp_script.specs.Replay.{EndsShort, OfLines, Replayed, Tells, asked}
+use Rattle.xcp_script.specs.Replay.{EndsShort, OfLines, Replayed, TellsAnswers, asked}
 use Rattle.xcp_script.specs.AnswerText.{answers_text}
 use Rattle.xcp_script.specs.declared.ReplayError.{ReplayError}
 use Rattle.xcp_script.specs.declared.ReplayError.TheVariants as errors
@@ -35,7 +35,7 @@ returns-clause-memory g c = λ h.
         run = subst (λ (l : LayoutValue). Run (opening l) desk.exchanges desk.slave) same c.replay_on.ensures.run;
         asked = subst (λ (l : LayoutValue). OfLines script (λ lines. Replayed l.max_cto lines (Err errors.Memory) (requests_of desk.exchanges))) same
             (subst (λ (r : Result ℕ ReplayError). OfLines script (λ lines. Replayed (layout_of c.new-desk.result.slave).max_cto lines r (requests_of desk.exchanges))) h c.replay_on.ensures.replayed);
-        written = subst (λ (r : Result ℕ ReplayError). Tells r old new (answers_text desk.exchanges)) h c.replay_on.ensures.told;
+        written = subst (λ (r : Result ℕ ReplayError). TellsAnswers r old new (answers_text desk.exchanges)) h c.replay_on.ensures.told;
       };
       short = subst (λ (l : LayoutValue). OfLines script (λ lines. EndsShort (asked l.max_cto lines) desk.exchanges old new)) same (c.replay_on.ensures.memory h);
     })

@@ -1,12 +1,12 @@
 use Rattle.std.proofs.Common.{◌++◌, suc, [], map, take, rules, arith, sym, subst}
 use Rattle.std.specs.Io.KnownBytes.{Consumes, IsAtEnd}
 use Rattle.std.specs.Prelude.{Err, Ok}
-use Rattle.xcp_record.specs.private.ReadChapter.{ReadsNext}
+use Rattle.xcp_record.specs.private.ReadChapter.{ReadsNextPart}
 use Rattle.std.proofs.KnownBytes.{Consumes-trans}
 use Rattle.xcp_trace.specs.EntrySpelling.{entry_in}
 use Rattle.xcp_record.specs.JournalFile.{calls_of}
-use Rattle.xcp_record.specs.Audit.{Audits, Hears}
-use Rattle.xcp_record.specs.private.Calls.{Spells}
+use Rattle.xcp_record.specs.Audit.{Audits, Witnesses}
+use Rattle.xcp_record.specs.private.Calls.{SpellsCalls}
 use Rattle.xcp_record.proofs.AuditLemmas.{begins, ends, ends_mismatch, ends_settled, ends_too_long, no_head_said, stands_more}
 use Rattle.xcp_record.proofs.HeardLemmas.{hears_all, hears_before, hears_differing, hears_no_head, hears_too_long}
 use Rattle.xcp_record.proofs.auditing.audit_chapters.Goals as goal
@@ -39,7 +39,7 @@ pub returns-in-Ok-End-clause-audits : goal.returns-in-Ok-End-clause-audits
 returns-in-Ok-End-clause-audits g c =
     let s = c.loop-number.invariant.stands in
     let next = c.in-Ok-End.ensures.reads s.read s.held in
-    let end = subst (λ o. ReadsNext c.loop-number.number c.loop-number.calls s.read (IsAtEnd (g.R.Read.remaining c.next_part.new.reader.inner)) next.0 c.next_part.new.parts.calls.items c.next_part.new.hasher (Ok o)) c.in-Ok-End.field-0-is next.2 in (
+    let end = subst (λ o. ReadsNextPart c.loop-number.number c.loop-number.calls s.read (IsAtEnd (g.R.Read.remaining c.next_part.new.reader.inner)) next.0 c.next_part.new.parts.calls.items c.next_part.new.hasher (Ok o)) c.in-Ok-End.field-0-is next.2 in (
       s.read ++ next.0,
       Consumes-trans _ _ _ _ _ s.was next.1,
       c.in-Ok.roster,
@@ -53,9 +53,9 @@ pub check_calls-requires-clause-calls : goal.check_calls-requires-clause-calls
 check_calls-requires-clause-calls g c =
     let s = c.loop-number.invariant.stands in
     let next = c.in-Ok-Chapter.ensures.reads s.read s.held in
-    let said = subst (λ o. ReadsNext c.loop-number.number c.loop-number.calls s.read (IsAtEnd (g.R.Read.remaining c.next_part.new.reader.inner)) next.0 c.next_part.new.parts.calls.items c.next_part.new.hasher (Ok o)) c.in-Ok-Chapter.field-0-is next.2 in
+    let said = subst (λ o. ReadsNextPart c.loop-number.number c.loop-number.calls s.read (IsAtEnd (g.R.Read.remaining c.next_part.new.reader.inner)) next.0 c.next_part.new.parts.calls.items c.next_part.new.hasher (Ok o)) c.in-Ok-Chapter.field-0-is next.2 in
     let there = said.0 in
-    (there.strings, subst (λ b. Spells b there.strings) (sym c.deref.ensures.value) (record { whole = there.spells; each = there.chapter.each }), there.chapter.few)
+    (there.strings, subst (λ b. SpellsCalls b there.strings) (sym c.deref.ensures.value) (record { whole = there.spells; each = there.chapter.each }), there.chapter.few)
 
 pub check_calls-requires-clause-before : goal.check_calls-requires-clause-before
 check_calls-requires-clause-before g c =
@@ -67,9 +67,9 @@ pub returns-in-Err-check_calls-clause-audits : goal.returns-in-Err-check_calls-c
 returns-in-Err-check_calls-clause-audits g c =
     let s = c.loop-number.invariant.stands in
     let next = c.in-Ok-Chapter.ensures.reads s.read s.held in
-    let said = subst (λ o. ReadsNext c.loop-number.number c.loop-number.calls s.read (IsAtEnd (g.R.Read.remaining c.next_part.new.reader.inner)) next.0 c.next_part.new.parts.calls.items c.next_part.new.hasher (Ok o)) c.in-Ok-Chapter.field-0-is next.2 in
+    let said = subst (λ o. ReadsNextPart c.loop-number.number c.loop-number.calls s.read (IsAtEnd (g.R.Read.remaining c.next_part.new.reader.inner)) next.0 c.next_part.new.parts.calls.items c.next_part.new.hasher (Ok o)) c.in-Ok-Chapter.field-0-is next.2 in
     let there = said.0 in
-    let spells = subst (λ b. Spells b there.strings) (sym c.deref.ensures.value) (record { whole = there.spells; each = there.chapter.each }) in
+    let spells = subst (λ b. SpellsCalls b there.strings) (sym c.deref.ensures.value) (record { whole = there.spells; each = there.chapter.each }) in
     let differs = c.in-Err-check_calls.ensures.err there.strings spells in
     let told = c.in-Err-check_calls.ensures.told_some there.strings spells in (
       s.read ++ next.0,
@@ -85,7 +85,7 @@ pub overflow_add-calls : goal.overflow_add-calls
 overflow_add-calls g c =
     let s = c.loop-number.invariant.stands in
     let next = c.in-Ok-Chapter.ensures.reads s.read s.held in
-    let said = subst (λ o. ReadsNext c.loop-number.number c.loop-number.calls s.read (IsAtEnd (g.R.Read.remaining c.next_part.new.reader.inner)) next.0 c.next_part.new.parts.calls.items c.next_part.new.hasher (Ok o)) c.in-Ok-Chapter.field-0-is next.2 in
+    let said = subst (λ o. ReadsNextPart c.loop-number.number c.loop-number.calls s.read (IsAtEnd (g.R.Read.remaining c.next_part.new.reader.inner)) next.0 c.next_part.new.parts.calls.items c.next_part.new.hasher (Ok o)) c.in-Ok-Chapter.field-0-is next.2 in
     let few = s.few in
     let more = said.0.chapter.few in
     let size = said.0.size in
@@ -96,9 +96,9 @@ pub loop-number-preserved : goal.loop-number-preserved
 loop-number-preserved g c =
     let s = c.loop-number.invariant.stands in
     let next = c.in-Ok-Chapter.ensures.reads s.read s.held in
-    let said = subst (λ o. ReadsNext c.loop-number.number c.loop-number.calls s.read (IsAtEnd (g.R.Read.remaining c.next_part.new.reader.inner)) next.0 c.next_part.new.parts.calls.items c.next_part.new.hasher (Ok o)) c.in-Ok-Chapter.field-0-is next.2 in
+    let said = subst (λ o. ReadsNextPart c.loop-number.number c.loop-number.calls s.read (IsAtEnd (g.R.Read.remaining c.next_part.new.reader.inner)) next.0 c.next_part.new.parts.calls.items c.next_part.new.hasher (Ok o)) c.in-Ok-Chapter.field-0-is next.2 in
     let there = said.0 in
-    let spells = subst (λ b. Spells b there.strings) (sym c.deref.ensures.value) (record { whole = there.spells; each = there.chapter.each }) in
+    let spells = subst (λ b. SpellsCalls b there.strings) (sym c.deref.ensures.value) (record { whole = there.spells; each = there.chapter.each }) in
     record {
       stands = stands_more c.in-Ok.roster c.args.layout.now c.args.slave.now c.check_calls.new.slave c.loop-number.slave _ (Consumes (g.R.Read.remaining c.args.reader.now.inner) (g.R.Read.remaining c.next_part.new.reader.inner)) _
           (λ calls. g.T.Witness.hears c.args.witness.now c.in-Ok.roster calls c.check_calls.new.witness) _ c.next_part.new.hasher c.loop-number.number c.loop-number.calls c.in-Ok-Chapter.count next.0 c.next_part.new.parts.calls.items s there (Consumes-trans _ _ _ _ _ s.was next.1)
@@ -117,7 +117,7 @@ returns-in-Err-next_part-clause-audits g c =
           (ends c.in-Ok.roster c.args.layout.now c.args.slave.now _ _ _ (IsAtEnd (g.R.Read.remaining c.next_part.new.reader.inner)) _ c.next_part.new.hasher c.loop-number.number c.loop-number.calls next.0 c.next_part.new.parts.calls.items c.in-Err-next_part.fault s next.2),
       calls_of s.settled.chapters,
       s.told,
-      subst (λ e. Hears c.in-Ok.roster c.args.layout.now (s.read ++ next.0) (Err e) (calls_of s.settled.chapters)) (sym c.fault_after.ensures)
+      subst (λ e. Witnesses c.in-Ok.roster c.args.layout.now (s.read ++ next.0) (Err e) (calls_of s.settled.chapters)) (sym c.fault_after.ensures)
           (hears_before c.in-Ok.roster c.args.layout.now c.args.slave.now _ _ _ _ _ c.loop-number.calls s next.0 c.in-Err-next_part.fault),
     )
 

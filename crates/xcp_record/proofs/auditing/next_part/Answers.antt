@@ -3,7 +3,7 @@ use Rattle.std.specs.Io.KnownBytes.{IsAtEnd}
 use Rattle.std.proofs.KnownBytes.{Consumes-trans}
 use Rattle.xcp_record.specs.FileFormat.{size_in}
 use Rattle.xcp_record.specs.JournalFile.{IsNoEnd}
-use Rattle.xcp_record.specs.private.ReadChapter.{ReadsNext, ReadsParts}
+use Rattle.xcp_record.specs.private.ReadChapter.{ReadsNextPart, ReadsParts}
 use Rattle.xcp_record.proofs.AuditLemmas.{check_fault, check_said, mark_fault, parts_fault}
 use Rattle.xcp_record.proofs.MarkLemmas.{mark_size, other_mark_head}
 use Rattle.xcp_record.proofs.auditing.next_part.Goals as goal
@@ -68,5 +68,5 @@ returns-in-Err-end_a_file-clause-reads g c = λ before held.
     (c.if-begin_a_mark.ensures {u = tt}) (append_assoc now.head now.calls.items now.digest) more.2 in (
       parts.0 ++ more.0,
       Consumes-trans _ _ _ _ _ parts.1 more.1,
-      subst (λ b. ReadsNext c.args.number c.args.calls before last (b ++ more.0) now.calls.items c.end_a_file.new.hasher (Err c.in-Err-end_a_file.fault)) (sym whole.0) said,
+      subst (λ b. ReadsNextPart c.args.number c.args.calls before last (b ++ more.0) now.calls.items c.end_a_file.new.hasher (Err c.in-Err-end_a_file.fault)) (sym whole.0) said,
     )

@@ -4,13 +4,13 @@ use Rattle.sha2.specs.Hashers.{Holds256}
 use Rattle.xcp_framing.specs.Prefix.{AppendsFront}
 use Rattle.std.specs.Prelude.{Some}
 use Rattle.xcp_record.specs.declared.roster.Roster.{Roster}
-use Rattle.xcp_record.specs.FileFormat.{head, magic, roster_bytes}
+use Rattle.xcp_record.specs.FileFormat.{head, journal_magic, roster_bytes}
 use Rattle.xcp_record.proofs.HeadLemmas.{head_parts}
 use Rattle.xcp_record.proofs.RecordLemmas.{on_err}
 use Rattle.xcp_record.proofs.recorder.begin.Goals as goal
 
 -- the magic with the layout and the roster behind it is the head
-is_head : (r : Roster) (layout first second third : List ℕ) → first ≡ magic 2 → second ≡ first ++ layout → third ≡ second ++ roster_bytes r → third ≡ head (Some r) layout
+is_head : (r : Roster) (layout first second third : List ℕ) → first ≡ journal_magic 2 → second ≡ first ++ layout → third ≡ second ++ roster_bytes r → third ≡ head (Some r) layout
 is_head r layout first second third begins goes_on ends = ends ∙ ap (λ (b : List ℕ). b ++ roster_bytes r) (goes_on ∙ ap (λ (b : List ℕ). b ++ layout) begins) ∙ head_parts r layout
 
 pub returns-in_err-write_all-clause-front : goal.returns-in_err-write_all-clause-front

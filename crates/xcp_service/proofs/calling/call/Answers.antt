@@ -36,15 +36,15 @@ returns-clause-member g c =
       | else-ends_chapter w ↦ ap (λ r. r.locked.writer.publications) w.resident-is
     ] in
     let journal = subst (λ m. done.locked.journal ≡ begun.locked.journal ++ entry m.number request answer ∷ []) same c.in_ok-told.ensures.journal in
-    let all_images = subst (λ j. AreAllImages g.N.Name.layout done.locked.before done.locked.base (exchanges j) done.locked.writer.publications) journal c.audit.ensures.all_images in
-    let images = subst (λ j. AreImagesFrom done.locked.first done.locked.base (exchanges j) done.locked.writer.publications) journal c.audit.ensures.images in (
+    let all_images = subst (λ j. AreAllImages g.N.Name.layout done.locked.before done.locked.base (exchanges j) done.locked.writer.publications) journal c.known.ensures.all_images in
+    let images = subst (λ j. AreImagesFrom done.locked.first done.locked.base (exchanges j) done.locked.writer.publications) journal c.known.ensures.images in (
       begun,
       begins,
       subst (λ m. c.submit.new.self ≡ accepting m (receipt begun.locked.chapter (length begun.locked.journal) request answer)) same c.in_ok-told.ensures.caller,
       record {
         before = done.locked.before;
         base = done.locked.base;
-        reached = c.audit.ensures.reached;
+        reached = c.known.ensures.reached;
         earlier = begun.locked.journal;
         place = refl;
         first = done.locked.first;

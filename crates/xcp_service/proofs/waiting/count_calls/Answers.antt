@@ -17,7 +17,7 @@ unreachable-requires g c =
 pub overflow_add-counts : goal.overflow_add-counts
 overflow_add-counts g c =
     let few = c.loop-at.invariant.few c.caller.result in
-    let most = c.audit.ensures.few in
+    let most = c.known.ensures.few in
     omega (arith, few, most, c.loop-at-test.true, c.len-at-end.ensures)
 
 pub loop-at-preserved : goal.loop-at-preserved

@@ -1,11 +1,11 @@
 use Rattle.std.proofs.Common.{◌∙◌, ap, sym, slice_set}
 use Rattle.std.proofs.lemmas.List.Edits.{map_over_more}
-use Rattle.xcp_service.specs.private.Waiting.{WaitingValue, marked}
+use Rattle.xcp_service.specs.private.Waiting.{WaitingValue, settled_mark}
 use Rattle.xcp_service.proofs.waiting.mark_all.Goals as goal
 
 pub loop-one-preserved : goal.loop-one-preserved
 loop-one-preserved g c =
-    let f = marked c.args.caller c.args.until in
+    let f = settled_mark c.args.caller c.args.until in
     let ws = c.loop-one.waiting in
     let k = c.loop-one.one-index in
     ap (λ (w : WaitingValue). slice_set ws k w) (c.mark.ensures ∙ sym (ap f c.one-item.is))

@@ -6,7 +6,7 @@ pub returns-in-Ok-clause-kept : goal.returns-in-Ok-clause-kept
 returns-in-Ok-clause-kept g c =
     let stayed = c.in-Ok.stayed in
     let ensures = c.in-Ok.ensures {u = tt} in
-    kept_as c.args.unnamed.layout _ _ _ (g.S.Scribe.wrote stayed.scribe) stayed.keeper stayed.members.items stayed.locked.chapter stayed.locked.before stayed.locked.base c.tell-told.result c.tell-told.ensures.chapters c.tell-told.ensures.calls c.tell-told.ensures.lost ensures.leaves.joined ensures.leaves.closed.2 ensures.leaves.settled ensures.leaves.members ensures.leaves.wrote ensures.served
+    kept_as c.args.unnamed.layout _ _ _ (g.S.Scribe.wrote stayed.scribe) stayed.keeper stayed.members.items stayed.locked.chapter stayed.locked.before stayed.locked.base c.report_of-told.result c.report_of-told.ensures.chapters c.report_of-told.ensures.calls c.report_of-told.ensures.lost ensures.leaves.joined ensures.leaves.closed.2 ensures.leaves.settled ensures.leaves.members ensures.leaves.wrote ensures.served
 
 pub returns-in-Err-clause-mismatch : goal.returns-in-Err-clause-mismatch
 returns-in-Err-clause-mismatch g c =

@@ -1,6 +1,6 @@
 use Rattle.std.proofs.Common.{◌≡◌, ℕ, ◌<◌, List, ◌∷◌, ◌++◌, [], length, set, arith, sym, refl, ap, ◌∙◌, subst, None}
 use Rattle.std.proofs.lemmas.Grind.{common_steps}
-use Rattle.pin_core.specs.State.{PinState, words_of, width}
+use Rattle.pin_core.specs.State.{PinState, words_of_buffer, width}
 use Rattle.pin_core.specs.CoreFields.{state_of}
 use Rattle.pin_core.specs.Effects.{CanPublish, after_publish}
 use Rattle.pin_core.specs.StateInvariant.{Lawful}
@@ -21,7 +21,7 @@ happened c =
     let low = (law.builds.building b c.in-Some.is).buffer in
     let eight = law.sizes.buffers in
     let here : c.from.result < length s.words = omega arith in
-    let was : c.index-built.result.now ≡ words_of s b = c.index-built.ensures ∙ there s.words c.from.result b c.index-built.result.now [] c.from.ensures here in
+    let was : c.index-built.result.now ≡ words_of_buffer s b = c.index-built.ensures ∙ there s.words c.from.result b c.index-built.result.now [] c.from.ensures here in
     let wide = law.sizes.widths b low in
     let len : c.len.result ≡ width s = c.len.ensures ∙ (ap length was ∙ wide) in
     let whole : n ≡ width s = c.if-self-len.false ∙ len in

@@ -1,5 +1,5 @@
 use Rattle.std.proofs.Common.{◌≡◌, ℕ, ◌<◌, ◌+◌, ◌∷◌, ◌++◌, [], length, set, arith, sym, refl, ap, ◌∙◌, subst}
-use Rattle.pin_core.specs.State.{PinState, words_of, width}
+use Rattle.pin_core.specs.State.{PinState, words_of_buffer, width}
 use Rattle.pin_core.specs.CoreFields.{front_of, state_of}
 use Rattle.pin_core.specs.Effects.{CanWrite, after_write}
 use Rattle.pin_core.specs.StateInvariant.{Lawful}
@@ -23,17 +23,17 @@ happened c =
     let eight = law.sizes.buffers in
     let here : c.from.result < length s.words = omega arith in
     let inside : b < length s.words = omega arith in
-    let was : c.index_mut-buffer.result.now ≡ words_of s b = c.index_mut-buffer.ensures.value ∙ there s.words c.from.result b c.index_mut-buffer.result.now [] c.from.ensures here in
+    let was : c.index_mut-buffer.result.now ≡ words_of_buffer s b = c.index_mut-buffer.ensures.value ∙ there s.words c.from.result b c.index_mut-buffer.result.now [] c.from.ensures here in
     let wide = law.sizes.widths b low in
     let len : c.len.result ≡ width s = c.len.ensures ∙ (ap length was ∙ wide) in
     let place : k ≡ n = c.if-k-self.false in
-    let fits : n < length (words_of s b) = omega arith in
+    let fits : n < length (words_of_buffer s b) = omega arith in
     let can : CanWrite (width s) s k b = (c.in-Some.is, length_front s.writer.building b n s.words c.in-Some.is (omega arith) ∙ sym place, omega arith) in
-    let row : c.set.new.self ≡ set (words_of s b) k x = c.set.ensures ∙ (λ i. set (was i) k x) in
-    let all : set s.words c.from.result c.set.new.self ≡ set s.words b (set (words_of s b) k x) = λ i. set s.words (c.from.ensures i) (row i) in
+    let row : c.set.new.self ≡ set (words_of_buffer s b) k x = c.set.ensures ∙ (λ i. set (was i) k x) in
+    let all : set s.words c.from.result c.set.new.self ≡ set s.words b (set (words_of_buffer s b) k x) = λ i. set s.words (c.from.ensures i) (row i) in
     let next : n ≡ k = sym place in
     let front : front_of s.writer.building (n + 1) (set s.words c.from.result c.set.new.self) ≡ s.writer.written ++ x ∷ [] =
-    (λ i. front_of s.writer.building (n + 1) (set s.words (c.from.ensures i) ((row ∙ ap (λ (m : ℕ). set (words_of s b) m x) (sym next)) i)))
+    (λ i. front_of s.writer.building (n + 1) (set s.words (c.from.ensures i) ((row ∙ ap (λ (m : ℕ). set (words_of_buffer s b) m x) (sym next)) i)))
     ∙ front_more s.writer.building b n s.words c.in-Some.is x inside fits in
     (can, λ i. record s { words = sym all i; writer = record s.writer { written = sym front i } })
 

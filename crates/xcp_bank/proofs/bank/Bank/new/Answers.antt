@@ -5,7 +5,7 @@ use Rattle.xcp_bank.specs.TableRule.{Banked}
 use Rattle.xcp_bank.specs.private.BlockMarks.{blocks_in}
 use Rattle.xcp_bank.specs.private.Everybody.{everybody}
 use Rattle.xcp_bank.specs.private.ImageWords.{words_for}
-use Rattle.xcp_bank.specs.Images.{image_of}
+use Rattle.xcp_bank.specs.Images.{image_in_words}
 use Rattle.xcp_bank.specs.BankId.{BankId, bank_of, image_bytes}
 use Rattle.xcp_bank.specs.BankEnds.{WriterEnd, six_readers, new_writer}
 use Rattle.xcp_bank.proofs.ImageLemmas.{for_length, for_last, for_image}
@@ -73,7 +73,7 @@ made : (c : goal.After-drop-words-2) → c.new-2.result ≡ new_writer (bank_of 
 made c =
     let words : List ℕ = c.in_ok-words.words.items in
     let k = (c.in_ok-readers.ensures words c.in_ok-board.ensures).0 in
-    let bytes = ap image_of c.in_ok-words.ensures ∙ for_image c.args.image.now 0 (λ i. (c.type_inv.image i).fits) c.requires.whole_words in
+    let bytes = ap image_in_words c.in_ok-words.ensures ∙ for_image c.args.image.now 0 (λ i. (c.type_inv.image i).fits) c.requires.whole_words in
     c.new-2.ensures words record { bank_is = k.bank_is; wide = k.wide; me = k.me } ∙ ap (new_writer (bank_of (arc_value c.in_ok-board.board))) bytes
 
 pub returns-clause-size : goal.returns-clause-size
@@ -92,5 +92,5 @@ pub returns-clause-readers : goal.returns-clause-readers
 returns-clause-readers c =
     let words : List ℕ = c.in_ok-words.words.items in
     let six = (c.in_ok-readers.ensures words c.in_ok-board.ensures).1 in
-    let bytes = ap image_of c.in_ok-words.ensures ∙ for_image c.args.image.now 0 (λ i. (c.type_inv.image i).fits) c.requires.whole_words in
+    let bytes = ap image_in_words c.in_ok-words.ensures ∙ for_image c.args.image.now 0 (λ i. (c.type_inv.image i).fits) c.requires.whole_words in
     six ∙ (ap (six_readers (bank_of (arc_value c.in_ok-board.board))) bytes ∙ ap (λ (z : BankId). six_readers z c.args.image.now) (sym (ap (λ (w : WriterEnd). w.bank) (made c))))

@@ -2,7 +2,7 @@ use Rattle.std.proofs.Common.{◌≡◌, ℕ, sym, ap, ◌∙◌, subst, Some}
 use Rattle.std.specs.Arc.{arc_value}
 use Rattle.atomic_table.specs.Seated.{TableId}
 use Rattle.xcp_bank.specs.SeatKnowledge.{Reading}
-use Rattle.xcp_bank.specs.private.SeatSteps.{IsReaderSeat, Acquired}
+use Rattle.xcp_bank.specs.private.SeatSteps.{IsReaderSeat, SeatAcquired}
 use Rattle.xcp_bank.specs.BankEnds.{ReaderEnd, reader_end}
 use Rattle.xcp_bank.specs.EndFields.{reader_in, shown_reader}
 use Rattle.xcp_bank.proofs.EndFieldLemmas.{sits_at, sits_here}
@@ -11,12 +11,12 @@ use Rattle.xcp_bank.proofs.reader.Reader.acquire.Goals as goal
 
 -- what the reader knows then
 made : (c : goal.After-self-2-1) → (y : Reading) × IsReaderSeat c.acquire_at-taken.new.token (arc_value c.self.inside.board) (reader_in c.self.inside.seat).0 y
-    × Acquired c.acquire_at-taken.result.0 c.acquire_at-taken.result.1 (arc_value c.self.inside.board).slots (reader_in c.self.inside.seat).0 (reader_in c.self.inside.seat).1 y
+    × SeatAcquired c.acquire_at-taken.result.0 c.acquire_at-taken.result.1 (arc_value c.self.inside.board).slots (reader_in c.self.inside.seat).0 (reader_in c.self.inside.seat).1 y
 made c =
     let r : ℕ = (reader_in c.self.inside.seat).0 in let x : Reading = (reader_in c.self.inside.seat).1 in
     let s = sits_here (arc_value c.self.inside.board) c.self.inside.held c.self.inside.seat c.self.invariant c.in-Some.seat c.in-Some.is in
     let d = c.acquire_at-taken.ensures r x (sits_at c.in-Some.seat r x (sym c.deref.ensures) s) in
-    (d.0, sits_at c.acquire_at-taken.new.token r d.0 c.deref.ensures d.1, subst (λ (z : TableId). Acquired c.acquire_at-taken.result.0 c.acquire_at-taken.result.1 z.slots r x d.0) c.deref.ensures d.2)
+    (d.0, sits_at c.acquire_at-taken.new.token r d.0 c.deref.ensures d.1, subst (λ (z : TableId). SeatAcquired c.acquire_at-taken.result.0 c.acquire_at-taken.result.1 z.slots r x d.0) c.deref.ensures d.2)
 
 pub invariant_of-self : goal.invariant_of-self
 invariant_of-self c =

@@ -3,7 +3,7 @@ use Rattle.std.specs.Arc.{arc_value}
 use Rattle.atomic_table.specs.Seated.{TableId}
 use Rattle.xcp_bank.specs.SeatKnowledge.{Writing}
 use Rattle.xcp_bank.specs.private.BlockMarks.{IsMarked}
-use Rattle.xcp_bank.specs.private.SeatSteps.{IsWriterSeat, Counted}
+use Rattle.xcp_bank.specs.private.SeatSteps.{IsWriterSeat, HeldCounted}
 use Rattle.xcp_bank.specs.BankEnds.{WriterEnd, writer_end, newest, HeldDoes}
 use Rattle.xcp_bank.specs.EndFields.{writer_in, shown_writer}
 use Rattle.xcp_bank.proofs.EndFieldLemmas.{desks_at, writer_kept_by}
@@ -12,13 +12,13 @@ use Rattle.xcp_bank.proofs.ScanCountLemmas.{rests_still, counted_still, held_few
 use Rattle.xcp_bank.proofs.writer.Writer.held.Goals as goal
 
 -- what the writer knows then
-made : (c : goal.After-count_held) → (u : Writing) × IsWriterSeat c.count_held.new.token (arc_value c.self.inside.board) u × Counted 8 c.count_held.result (arc_value c.self.inside.board).slots (writer_in c.self.inside.seat) u
+made : (c : goal.After-count_held) → (u : Writing) × IsWriterSeat c.count_held.new.token (arc_value c.self.inside.board) u × HeldCounted 8 c.count_held.result (arc_value c.self.inside.board).slots (writer_in c.self.inside.seat) u
 made c =
     let bank = arc_value c.self.inside.board in
     let w : Writing = writer_in c.self.inside.seat in
     let T : c.deref.result.now ≡ bank = c.deref.ensures in
     let e = c.count_held.ensures w (desks_at c.self.inside.seat w (sym T) c.self.invariant.desks) in
-    (e.0, desks_at c.count_held.new.token e.0 T e.1, subst (λ (z : TableId). Counted 8 c.count_held.result z.slots w e.0) T e.2)
+    (e.0, desks_at c.count_held.new.token e.0 T e.1, subst (λ (z : TableId). HeldCounted 8 c.count_held.result z.slots w e.0) T e.2)
 
 pub invariant_of-self : goal.invariant_of-self
 invariant_of-self c =

@@ -7,7 +7,7 @@ use Rattle.xcp_packet.specs.Rows.{first_holding}
 use Rattle.xcp_config.specs.Check.{Check}
 use Rattle.xcp_memory.specs.Limits.{id_limit, max_cto_limit, max_dto_limit}
 use Rattle.xcp_config.specs.TomlValues.{byte_orders, checksums, classes}
-use Rattle.xcp_config.specs.TableLayout.{byte_order_of, checksum_of, class_of}
+use Rattle.xcp_config.specs.TableLayout.{byte_order_of, checksum_in_table, class_of}
 use Rattle.xcp_config.specs.TableChecks.{text_checks, name_checks, integer_checks, extras_checks, clock_checks, own_checks}
 use Rattle.std.proofs.lemmas.Result.{err_from_is_err_and}
 use Rattle.xcp_packet.proofs.RowTestLemmas.{behind_4, holding_left, none_left, holding_1_of_5, holding_2_of_5, holding_3_of_5, holding_4_of_5}
@@ -27,7 +27,7 @@ abbrev byte_order : Data → List Check
 byte_order t = name_checks key.ByteOrder byte_orders (byte_order_of t)
 
 abbrev checksum : Data → List Check
-checksum t = name_checks key.Checksum checksums (checksum_of t)
+checksum t = name_checks key.Checksum checksums (checksum_in_table t)
 
 abbrev five : Data → List Check
 five t = id t ++ max_cto t ++ max_dto t ++ byte_order t ++ checksum t

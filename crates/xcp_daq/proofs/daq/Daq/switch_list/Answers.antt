@@ -11,7 +11,7 @@ use Rattle.xcp_daq.proofs.daq.Daq.switch_list.Goals.{in-0, in-1, in_default}
 pub set_mode-requires-clause-lawful : goal.set_mode-requires-clause-lawful
 set_mode-requires-clause-lawful c =
     let l = list_at c.args.self.now c.args.i in
-    let h = c.audit.ensures.each c.args.i no_list c.requires.list in
+    let h = c.known.ensures.each c.args.i no_list c.requires.list in
     let m = c.mode-state.result in
     elim c.match-mode.branch [
       | in-0 w ↦ subst (λ (n : Mode). IsList (list_of n l.odts)) (sym w.stop.ensures ∙ sym w.state-is) (lawful_stopped l m m.selected c.mode-state.ensures h)

@@ -1,7 +1,7 @@
 use Rattle.std.proofs.Common.{◌≡◌, ◌++◌, List, ℕ, ap, sym, ◌∙◌}
 use Rattle.std.specs.List.{flat_map}
 use Rattle.sha2.specs.Sha256.{sha256}
-use Rattle.xcp_flash.specs.FlashFile.{body_of, head, magic, page_in}
+use Rattle.xcp_flash.specs.FlashFile.{body_of, head, flash_magic, page_in}
 use Rattle.xcp_flash.proofs.FileLemmas.{body_is, file_is, head_is}
 use Rattle.xcp_flash.proofs.references.References.file.Goals as goal
 
@@ -13,7 +13,7 @@ returns-clause-whole c =
     let two = (c.in_ok-extend_from_slice-2.ensures {u = tt}).items in
     let three = (c.in_ok-append_each.ensures {u = tt}).bytes in
     let four = (c.in_ok-extend_from_slice-3.ensures {u = tt}).items in
-    let start : c.extend_from_slice-2.new.self.items ≡ head d = two ∙ ap (λ (b : List ℕ). b ++ d) (one ∙ ap (λ (b : List ℕ). b ++ magic) c.clear.ensures.items) ∙ sym (head_is d) in
+    let start : c.extend_from_slice-2.new.self.items ≡ head d = two ∙ ap (λ (b : List ℕ). b ++ d) (one ∙ ap (λ (b : List ℕ). b ++ flash_magic) c.clear.ensures.items) ∙ sym (head_is d) in
     let body : c.append_each.new.out.items ≡ body_of d pages =
     three
     ∙ ap (λ (b : List ℕ). b ++ flat_map page_in c.deref.result.now) start

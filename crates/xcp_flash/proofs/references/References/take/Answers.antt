@@ -14,4 +14,4 @@ returns-clause-kept c =
     let kept = c.take_each.auto.pages in
     let long : c.self.inside.pages.len ≡ length new = omega (arith, many, kept) in
     let all : take c.self.inside.pages.len (new ++ rest) ≡ kept_pages v = ap (λ (n : ℕ). take n (new ++ rest)) long ∙ take-append_seam new rest ∙ c.take_each.ensures.new in
-    subst (λ (ps : List (List ℕ)). AreReferences ps (layout_of v)) (sym all) (kept_sized v c.audit.ensures.transfer.layout c.audit.ensures.transfer.pages)
+    subst (λ (ps : List (List ℕ)). AreReferences ps (layout_of v)) (sym all) (kept_sized v c.known.ensures.transfer.layout c.known.ensures.transfer.pages)

@@ -10,7 +10,7 @@ use Rattle.xcp_memory.proofs.layout.Layout.bytes_in_all.Goals as goal
 pub overflow_add-sum : goal.overflow_add-sum
 overflow_add-sum c =
     let below : c.loop-i.i < length c.args.self.now.segments = omega (arith, c.segment_count-i-end.ensures.value, c.loop-i-test.true) in
-    omega (arith, bytes_room c.args.self.now c.loop-i.i c.audit.ensures below, class_most c.args.self.now.class, c.loop-i.invariant, c.segment_size-sum.ensures.value)
+    omega (arith, bytes_room c.args.self.now c.loop-i.i c.known.ensures below, class_most c.args.self.now.class, c.loop-i.invariant, c.segment_size-sum.ensures.value)
 
 pub loop-i-preserved : goal.loop-i-preserved
 loop-i-preserved c =
@@ -23,7 +23,7 @@ returns c =
     let all : c.loop-i.sum ≡ sum_by (λ s. length s.bytes) l.segments = c.loop-i.invariant ∙ ap (sum_by (λ (s : SegmentValue). length s.bytes)) (take_all c.loop-i.i l.segments (omega (arith, c.segment_count-i-end.ensures.value, c.loop-i-test.false))) in
     record {
       value = all;
-      least = omega (arith, all, some_byte l c.audit.ensures);
-      most = omega (arith, all, c.audit.ensures.total);
-      bound = omega (arith, all, c.audit.ensures.total, class_most l.class);
+      least = omega (arith, all, some_byte l c.known.ensures);
+      most = omega (arith, all, c.known.ensures.total);
+      bound = omega (arith, all, c.known.ensures.total, class_most l.class);
     }

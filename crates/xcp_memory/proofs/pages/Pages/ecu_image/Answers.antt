@@ -7,5 +7,5 @@ use Rattle.xcp_memory.proofs.pages.Pages.ecu_image.Goals as goal
 pub returns : goal.returns
 returns c =
     let v = c.args.self.now in
-    let long = length-ecu_image v c.audit.ensures.layout c.audit.ensures.pages in
+    let long = length-ecu_image v c.known.ensures.layout c.known.ensures.pages in
     c.ecu_image_part.ensures.bytes ∙ ap (λ n. take n (ecu_image v)) c.requires ∙ take_all (image_size v.layout) (ecu_image v) (omega (arith, long))

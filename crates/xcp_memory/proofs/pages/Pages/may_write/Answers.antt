@@ -16,7 +16,7 @@ returns-in_err-writable-clause-protected c =
     let a = c.args in
     let r = c.from_residual in
     let p = err_from_is_err_and r.result r.ensures.1 in
-    answers_protected a.self.now a.address a.n r.result c.audit.ensures.layout c.requires.some (handed_on (write_refusal a.self.now a.address a.n) r.result _ p.0 c.in_err-writable.ensures.refused p.1 p.2)
+    answers_protected a.self.now a.address a.n r.result c.known.ensures.layout c.requires.some (handed_on (write_refusal a.self.now a.address a.n) r.result _ p.0 c.in_err-writable.ensures.refused p.1 p.2)
 
 pub returns-clause-outside : goal.returns-clause-outside
 returns-clause-outside c =
@@ -24,4 +24,4 @@ returns-clause-outside c =
 
 pub returns-clause-protected : goal.returns-clause-protected
 returns-clause-protected c =
-    answers_protected c.args.self.now c.args.address c.args.n (Ok tt) c.audit.ensures.layout c.requires.some c.in_ok-writable.ensures.ok.0
+    answers_protected c.args.self.now c.args.address c.args.n (Ok tt) c.known.ensures.layout c.requires.some c.in_ok-writable.ensures.ok.0

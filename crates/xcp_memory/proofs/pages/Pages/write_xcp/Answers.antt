@@ -18,7 +18,7 @@ returns-in_err-segment-clause-protected c =
     let r = c.from_residual in
     let n = length a.bytes.now in
     let p = err_from_is_err_and r.result r.ensures.1 in
-    answers_protected a.self.now a.address n r.result c.audit.ensures.layout c.requires.some (handed_on (write_refusal a.self.now a.address n) r.result _ p.0 c.in_err-segment.ensures.refused p.1 p.2)
+    answers_protected a.self.now a.address n r.result c.known.ensures.layout c.requires.some (handed_on (write_refusal a.self.now a.address n) r.result _ p.0 c.in_err-segment.ensures.refused p.1 p.2)
 
 pub returns-clause-outside : goal.returns-clause-outside
 returns-clause-outside c =
@@ -26,4 +26,4 @@ returns-clause-outside c =
 
 pub returns-clause-protected : goal.returns-clause-protected
 returns-clause-protected c =
-    answers_protected c.args.self.now c.args.address (length c.args.bytes.now) (Ok tt) c.audit.ensures.layout c.requires.some c.in_ok-segment.ensures.ok.0
+    answers_protected c.args.self.now c.args.address (length c.args.bytes.now) (Ok tt) c.known.ensures.layout c.requires.some c.in_ok-segment.ensures.ok.0

@@ -23,7 +23,7 @@ invariant_of-self-2 g c =
     let number : chapter.number ≡ k.number = follows.0 ∙ sym (ap (λ (v : KeeperValue). v.number) c.self.view_is) in
     let before : chapter.before ≡ k.before = follows.1 ∙ sym (ap (λ (v : KeeperValue). v.before) c.self.view_is) in
     let base : chapter.base ≡ last = follows.2 ∙ sym (ap (λ (v : KeeperValue). v.last) c.self.view_is) in
-    let joined = joined_more g.N.Name.layout k.chapters.list k.number k.before last chapter c.self.invariant.0 number before base c.audit.ensures.run in
+    let joined = joined_more g.N.Name.layout k.chapters.list k.number k.before last chapter c.self.invariant.0 number before base c.known.ensures.run in
     let waiting : WaitingValue = record { chapter = chapter; owed = c.count_calls-owed.result } in
     let kept = kept_chapter k.chapters.list k.sheaves.list k.waiting.items waiting (number ∙ count_of g.N.Name.layout k.chapters.list k.number k.before last c.self.invariant.0) c.count_calls-owed.ensures c.self.invariant.1 in
     let chapters : k.chapters.list ++ chapter ∷ [] ≡ c.push_reserved.new.self.list = sym (c.push_reserved.ensures ∙ ap (λ (l : List ChapterValue). l ++ chapter ∷ []) c.reserve-else-is_err.ensures.list) in

@@ -13,7 +13,7 @@ invariant_of-self-2 g c =
     ∙ ap (λ (d : ChapterValue). c.self.inside.tray.put ++ parcel_of_chapter d ∷ []) done.chapter) in (
       c.put_chapter.ensures.same.0 ∙ (ap (λ (t : TrayValue ParcelValue). t.relay) c.clear.ensures ∙ c.self.invariant.0),
       c.put_chapter.ensures.same.1 ∙ (ap (λ (t : TrayValue ParcelValue). t.tag) c.clear.ensures ∙ c.self.invariant.1),
-      goes_on_more g.N.Name.layout c.self.inside.tray.put c.put_chapter.new.tray.put c.self.inside.locked c.cut.new.self c.self.invariant.2 c.audit.ensures.run done.next put,
+      goes_on_more g.N.Name.layout c.self.inside.tray.put c.put_chapter.new.tray.put c.self.inside.locked c.cut.new.self c.self.invariant.2 c.known.ensures.run done.next put,
       published_cut g.N.Name.layout c.self.inside.tray.put c.put_chapter.new.tray.put c.self.inside.locked c.cut.new.self c.self.invariant.3 done.next put,
     )
 

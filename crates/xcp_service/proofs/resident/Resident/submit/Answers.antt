@@ -12,5 +12,5 @@ invariant_of-self g c =
       c.self.invariant.0,
       c.self.invariant.1,
       goes_on_same g.N.Name.layout was c.submit_into-submitted.new.self past said.chapter c.self.invariant.2,
-      published_by _ g.N.Name.layout c.submit_into-submitted.result was c.submit_into-submitted.new.self past c.args.caller.now.number (request_asked c.args.asked) (λ t. answer_in t c.submit_into-submitted.new.packet) c.self.invariant.2 c.audit.ensures.run said.answers said.journal said.published said.err c.self.invariant.3,
+      published_by _ g.N.Name.layout c.submit_into-submitted.result was c.submit_into-submitted.new.self past c.args.caller.now.number (request_asked c.args.asked) (λ t. answer_in t c.submit_into-submitted.new.packet) c.self.invariant.2 c.known.ensures.run said.answers said.journal said.published said.err c.self.invariant.3,
     )
