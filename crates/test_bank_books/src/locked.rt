@@ -79,7 +79,7 @@ impl<N: Name> Opened<N> {
 
     /// Cuts the open chapter off.
     fn cuts(&mut self, alloc: Global) -> Said {
-        match self.locked.cut(alloc) {
+        match self.locked.cut_chapter(alloc) {
             Ok(chapter) => {
                 let (number, calls, before) = (chapter.number(), chapter.len(), chapter.before());
                 self.chapters.push(chapter)?;

@@ -49,7 +49,7 @@ impl XcpAnswer {
             Told::Silent => self.tell_count(0, 0),
             Told::Packets(Cut::Whole) => self.tell_packets(packet, 0, 1),
             Told::Packets(Cut::Block(width)) => {
-                self.tell_packets(packet, width.bytes(), count_of(packet, *width));
+                self.tell_packets(packet, width.size(), count_of(packet, *width));
             }
             Told::Sampled(count) => self.tell_count(2, *count),
             Told::Overrun => self.tell_count(3, 0),
@@ -89,7 +89,7 @@ fn count_of(bytes: &[u8], width: Width) -> u8
     requires { length bytes.now ≤ 255 }
     ensures { result ≡ length (block_packets width bytes.now) }
 {
-    let full = bytes.len().saturating_sub(1) / width.bytes() as usize;
+    let full = bytes.len().saturating_sub(1) / width.size() as usize;
     full as u8 + 1
 }
 

@@ -160,7 +160,7 @@ fn spell(slave: &Slave, digest: &[u8; 32], pages: &mut References, file: &mut Ve
     ensures room { file_size (map (λ page. length page) pages.new) ≤ vec_capacity file.new }
 {
     slave.known();
-    pages.take(slave);
+    pages.update(slave);
     let Ok(()) = pages.file(digest, file) else {
         unreachable!()
     };

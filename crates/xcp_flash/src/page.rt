@@ -40,7 +40,7 @@ impl Page {
     }
 
     /// Makes these the bytes of the page, and answers whether they are others than before.
-    pub(crate) fn take(&mut self, bytes: &[u8]) -> bool
+    pub(crate) fn update(&mut self, bytes: &[u8]) -> bool
         requires { length bytes.now ≡ length self.old }
         ensures new { self.new ≡ bytes.now }
         ensures changed { MatchBool result (self.old ≢ bytes.now) (self.old ≡ bytes.now) }

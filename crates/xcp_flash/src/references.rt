@@ -50,14 +50,14 @@ impl References {
 
     /// Takes the reference pages that a slave will have once what a tool asked for is stored, and answers whether they are others than
     /// before. It takes no memory.
-    pub fn take(&mut self, slave: &Slave) -> bool
+    pub fn update(&mut self, slave: &Slave) -> bool
         requires { AreReferences self.old (layout_of slave.now) }
         ensures new { self.new ≡ kept_pages slave.now }
         ensures changed { MatchBool result (self.old ≢ kept_pages slave.now) (self.old ≡ kept_pages slave.now) }
         ensures kept { AreReferences self.new (layout_of slave.now) }
     {
         slave.known();
-        take_each(&mut self.pages, slave)
+        update_each(&mut self.pages, slave)
     }
 
     /// The file of these pages, in place of the bytes, where the layout's file has this SHA-256. It takes memory only where these have
@@ -79,7 +79,7 @@ impl References {
 }
 
 /// Takes the page that is kept of each segment, and answers whether one is another than before.
-fn take_each(pages: &mut [Page], slave: &Slave) -> bool
+fn update_each(pages: &mut [Page], slave: &Slave) -> bool
     requires sized { AreReferences pages.old (layout_of slave.now) }
     requires lawful { IsPages slave.now.transfer.pages }
     ensures new { pages.new ≡ kept_pages slave.now }
@@ -87,7 +87,7 @@ fn take_each(pages: &mut [Page], slave: &Slave) -> bool
 {
     let mut changed = false;
     for segment in 0..pages.len() {
-        if pages[segment].take(slave.kept(segment)) {
+        if pages[segment].update(slave.kept(segment)) {
             changed = true;
         }
     }

@@ -122,7 +122,7 @@ fn push_block(batch: &mut Batch, bytes: &[u8], width: Width) -> Result<u64, Allo
     ensures most { IfOk result (λ n. n ≤ most_train) }
     ensures some { OnErr result (block_packets width bytes.now ≢ []) }
 {
-    let _least = width.bytes();
+    let _least = width.size();
     let mut count = 0;
     let mut left = bytes;
     let mut piece = Packet::new();

@@ -156,7 +156,7 @@ fn send_block<W: Write>(
     ensures err { IfErr result (λ e.
         (e ≡ ServeError.Write) × (writer.old.failures < writer.new.failures)) }
 {
-    let _least = width.bytes();
+    let _least = width.size();
     let mut piece = Packet::new();
     let mut left = bytes;
     'pieces: loop {

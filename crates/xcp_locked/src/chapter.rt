@@ -62,7 +62,7 @@ impl<N: Name> Model for Chapter<N> {
 impl<N: Name> Locked<N> {
     /// Cuts the open chapter off. The next one begins with the slave as it is, without calls; nothing
     /// is executed or published. `LastChapter` is looked at first; after an error nothing changed.
-    pub fn cut(&mut self, alloc: Global) -> Result<Chapter<N>, LockedError>
+    pub fn cut_chapter(&mut self, alloc: Global) -> Result<Chapter<N>, LockedError>
         ensures chapter { IfOk result (λ c. c ≡ chapter_of self.old) }
         ensures next { IfOk result (λ _. self.new ≡ cut_off self.old) }
         ensures last { result ≡ Err LockedError.LastChapter ↔ (last_chapter ≤ self.old.chapter) }

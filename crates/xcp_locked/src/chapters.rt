@@ -177,5 +177,5 @@ fn take_chapter<N: Name>(
     if locked.len() < u64::from(least) || locked.chapter() >= LAST_CHAPTER {
         return Ok(None);
     }
-    Ok(Some(locked.cut(alloc)?))
+    Ok(Some(locked.cut_chapter(alloc)?))
 }

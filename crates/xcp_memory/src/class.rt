@@ -64,7 +64,8 @@ const LARGE: ClassLimits = ClassLimits {
 };
 
 impl Class {
-    /// The limits of the class.
+    /// The limits of the class. (Inlined, so that whoever wants one of them reads no other.)
+    #[inline(always)]
     pub fn limits(self) -> ClassLimits
         ensures value { result ≡ limits_of self }
         ensures bytes { (2040 ≤ result.bytes) × (result.bytes ≤ 1048576) }

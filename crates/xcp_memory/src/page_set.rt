@@ -157,7 +157,7 @@ impl PageSet {
     }
 
     /// Replaces the whole content of a page by that of another.
-    pub(crate) fn copy(&mut self, source: usize, target: usize)
+    pub(crate) fn copy_page(&mut self, source: usize, target: usize)
         requires source { source < length self.old.pages }
         requires target { target < length self.old.pages }
         ensures { self.new ≡ with_content self.old target (get_or self.old.pages source []) }
@@ -187,7 +187,7 @@ impl PageSet {
         ensures { self.new ≡ segment_frozen self.old }
     {
         if self.freeze {
-            self.copy(self.xcp as usize, 0);
+            self.copy_page(self.xcp as usize, 0);
         }
     }
 

@@ -45,7 +45,7 @@ impl Width {
             (λ rest. block_packets self bytes.now ≡ packet.new.items ∷ block_packets self rest.now) }
         ensures less { IfSome result (λ rest. length rest.now < length bytes.now) }
     {
-        let width = self.bytes() as usize;
+        let width = self.size() as usize;
         if bytes.len() <= width {
             write_bytes(packet, bytes);
             return None;
@@ -56,7 +56,7 @@ impl Width {
     }
 
     /// How many data bytes that are.
-    pub fn bytes(self) -> u8
+    pub fn size(self) -> u8
         ensures value { result ≡ self }
         ensures least { 7 ≤ result }
         ensures most { result ≤ 254 }
@@ -120,7 +120,7 @@ impl Train {
         ensures { result ≡ block_packets width bytes.now }
     {
         let mut packet = Packet::new();
-        if bytes.len() <= width.bytes() as usize {
+        if bytes.len() <= width.size() as usize {
             write_bytes(&mut packet, bytes);
             return Train::one(packet);
         }
@@ -140,7 +140,7 @@ impl Train {
         match self.width {
             None => 1,
             Some(width) => {
-                let full = (self.bytes.len() - 1) / width.bytes() as usize;
+                let full = (self.bytes.len() - 1) / width.size() as usize;
                 full as u8 + 1
             }
         }
@@ -223,6 +223,6 @@ fn write_piece(packet: &mut Packet, bytes: &[u8], width: Width, i: u8)
     requires index { i < length (block_packets width bytes.now) }
     ensures { slice_get (block_packets width bytes.now) i ≡ Some packet.new.items }
 {
-    let width = width.bytes() as usize;
+    let width = width.size() as usize;
     write_bytes(packet, piece_at(bytes, i as usize * width, width));
 }

@@ -97,7 +97,7 @@ impl<F: Shelf> Scribe for Flashing<F> {
         if !self.pages.fit(last.layout()) {
             return;
         }
-        let changed = self.pages.take(last);
+        let changed = self.pages.update(last);
         if !is_due(changed, self.standing) {
             return;
         }

@@ -41,7 +41,7 @@ impl Hall {
 
     /// One tool is gone: the session isn't its seat's any more. Where it was the last one, a `Hangup` is submitted before another can be
     /// here. Where it is refused, for want of memory, the slave's session stands until the next tool goes.
-    pub fn leave<N: Name, M: Route, R: Wait + Clock>(
+    pub fn depart<N: Name, M: Route, R: Wait + Clock>(
         &self,
         rt: &R,
         station: &mut Seated<'_, N, M, R>,

@@ -46,7 +46,7 @@ impl<'a, R: Clock + Wait> Pace<'a, R> {
     }
 
     /// The clock that it reads.
-    pub fn clock(&self) -> &'a R {
+    pub fn time_source(&self) -> &'a R {
         self.clock
     }
 

@@ -124,7 +124,7 @@ fn next_tool<'a, W: Watcher, T: Wait + Clock>(
 
 impl<'a, N: Name, M: Route, W, T> Seat<'a, N, M, W, T> {
     /// The members of a seat that didn't begin.
-    pub fn leave(self) -> SeatMembers<N, M>
+    pub fn into_members(self) -> SeatMembers<N, M>
         ensures { Sat self.entry.max_cto (pair self.entry.tool self.entry.pump) (pair result.tool result.pump) }
     {
         let Seat { tool, pump, .. } = self;
@@ -158,7 +158,7 @@ fn visit<
     let (mut tool, pump, end) = serve_tool(
         rt, alloc, shared, place, line, address, &was_idle, tool, pump,
     );
-    let departure = place.hall.leave(rt, &mut tool);
+    let departure = place.hall.depart(rt, &mut tool);
     if was_idle.load(Ordering::SeqCst) {
         place.watcher.idle(place.number, address);
     }

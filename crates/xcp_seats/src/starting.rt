@@ -56,7 +56,7 @@ fn once_started<
     ensures { Sat seat.entry.max_cto (pair seat.entry.tool seat.entry.pump) (pair result.tool result.pump) }
 {
     let go = *start.lock(rt);
-    if go { sit(seat) } else { seat.leave() }
+    if go { sit(seat) } else { seat.into_members() }
 }
 
 /// Makes the thread of a ward, which waits for the start signal, and tells whether it stands. It ends with the scope.

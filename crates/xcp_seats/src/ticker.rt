@@ -85,7 +85,7 @@ impl<'a, N: Name, M: Route, C: Clock + Wait> Ticker<'a, N, M, C> {
             }
             cycle(
                 rt,
-                pace.clock(),
+                pace.time_source(),
                 alloc,
                 shared,
                 losses,

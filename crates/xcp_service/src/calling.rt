@@ -45,7 +45,7 @@ pub fn call<N: Name, M: Route>(
     ensures err { OnErr result ((member.new ≡ member.old) × ExecutesNothing resident.old resident.new) }
 {
     if resident.as_locked().len() >= JOURNAL as u64 {
-        resident.cut(rt, alloc, post);
+        resident.cut_chapter(rt, alloc, post);
     }
     member.hand_over(rt, alloc, resident, post);
     let told = member.submit(resident, asked, packet)?;
@@ -53,7 +53,7 @@ pub fn call<N: Name, M: Route>(
     let wants_end = resident.wants_end();
     let is_behind = wants_end && post.is_behind(rt);
     if ends_chapter(resident.as_locked().len(), wants_end, is_behind) {
-        resident.cut(rt, alloc, post);
+        resident.cut_chapter(rt, alloc, post);
     }
     Ok(told)
 }
@@ -138,7 +138,7 @@ fn finish_by<N: Name, M: Route>(
 {
     if !resident.may_finish(shelved.chapters()) {
         if resident.wants_end() && !post.is_behind(rt) {
-            resident.cut(rt, alloc, post);
+            resident.cut_chapter(rt, alloc, post);
         }
         return Ok(None);
     }
@@ -170,7 +170,7 @@ pub fn cut_in_time<N: Name, M: Route>(
     }
     let is_due = is_time || !resident.may_finish(post.shelved(rt).chapters());
     if is_due && resident.as_locked().len() > 0 {
-        resident.cut(rt, alloc, post);
+        resident.cut_chapter(rt, alloc, post);
     }
     true
 }

@@ -134,10 +134,10 @@ impl<N: Name, M: Route> Resident<N, M> {
     }
 
     /// A seat's tool has gone: the session isn't its own any more.
-    pub fn leave(&mut self, seat: u8)
+    pub fn depart(&mut self, seat: u8)
         ensures { self.new ≡ record self.old { sessions = without seat self.old.sessions } }
     {
-        self.sessions.leave(seat);
+        self.sessions.depart(seat);
         self.pumps.tell_all();
     }
 
@@ -164,14 +164,14 @@ impl<N: Name, M: Route> Resident<N, M> {
 
     /// Cuts the open chapter off, and puts it into the post for the keeper. `false` where there is no memory for it, or the chapter is
     /// the last that there can be: nothing was cut off then.
-    pub fn cut(&mut self, rt: &impl Wait, alloc: Global, post: &Post<N, M>) -> bool
+    pub fn cut_chapter(&mut self, rt: &impl Wait, alloc: Global, post: &Post<N, M>) -> bool
         ensures { MatchBool result (self.new ≡ with_a_cut self.old) (self.new ≡ self.old) }
     {
         if !post.clear(rt, &mut self.tray) {
             return false;
         }
         self.locked.known();
-        let Ok(chapter) = self.locked.cut(alloc) else {
+        let Ok(chapter) = self.locked.cut_chapter(alloc) else {
             return false;
         };
         post.put_chapter(rt, &mut self.tray, chapter);

@@ -86,7 +86,7 @@ impl<'a, N: Name, M: Route, R: Wait + Clock> Seated<'a, N, M, R> {
 
     /// The seat's tool has gone: the session isn't the seat's any more.
     pub fn leave_session(&self) {
-        self.shared.lock.as_ref().lock(self.rt).leave(self.seat);
+        self.shared.lock.as_ref().lock(self.rt).depart(self.seat);
     }
 
     /// The member, with all its receipts.

@@ -73,12 +73,12 @@ impl Sessions {
     fn connect(&mut self, seat: u8)
         ensures { self.new ≡ seat ∷ without seat self.old }
     {
-        self.leave(seat);
+        self.depart(seat);
         self.seats.insert(0, seat);
     }
 
     /// This seat's tool has gone.
-    pub(crate) fn leave(&mut self, seat: u8)
+    pub(crate) fn depart(&mut self, seat: u8)
         ensures { self.new ≡ without seat self.old }
     {
         self.seats.retain(|other| *other != seat);

@@ -112,7 +112,7 @@ fn close<N: Name, M: Route, R: Wait>(
     ensures closed { result ≡ true → IsClosed resident.new.locked }
     ensures members { members.new ≡ members.old }
 {
-    if !resident.cut(rt, alloc, post) {
+    if !resident.cut_chapter(rt, alloc, post) {
         return false;
     }
     if !resident.clear(rt, post) {

@@ -150,7 +150,7 @@ fn answer_parts<'a>(told: &Told, packet: &'a Packet) -> (u8, u8, &'a [u8])
     match told {
         Told::Silent => (0, 0, &[]),
         Told::Packets(Cut::Whole) => (1, 0, packet.as_slice()),
-        Told::Packets(Cut::Block(width)) => (BLOCK, width.bytes(), packet.as_slice()),
+        Told::Packets(Cut::Block(width)) => (BLOCK, width.size(), packet.as_slice()),
         Told::Sampled(count) => (2, *count, &[]),
         Told::Overrun => (OVERRUN, 0, &[]),
         Told::NoChannel => (4, 0, &[]),

@@ -132,10 +132,10 @@ impl Transfer {
         self.pages.switch(mode, segment, page)
     }
 
-    /// Copies a page over another, as `Pages::copy` says. No block may be under way.
+    /// Copies a page over another, as `Pages::copy_page` says. No block may be under way.
     ///
     /// ASAM MCD-1 XCP, protocol layer, description of commands: COPY_CAL_PAGE.
-    pub fn copy(
+    pub fn copy_page(
         &mut self,
         source: u8,
         source_page: u8,
@@ -146,7 +146,8 @@ impl Transfer {
         ensures ok { OnOk result ((copy_refusal source source_page target target_page self.old.pages ≡ None) × (self.new ≡ record self.old { pages = pages_copied source source_page target target_page self.old.pages })) }
         ensures refused { IfErr result (λ code. (copy_refusal source source_page target target_page self.old.pages ≡ Some code) × (self.new ≡ self.old)) }
     {
-        self.pages.copy(source, source_page, target, target_page)
+        self.pages
+            .copy_page(source, source_page, target, target_page)
     }
 
     /// Sets or clears FREEZE mode of a segment, as `Pages::set_freeze` says. No block may be under

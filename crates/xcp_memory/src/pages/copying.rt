@@ -16,7 +16,7 @@ impl Pages {
     /// not the same length. A refusal copies nothing.
     ///
     /// ASAM MCD-1 XCP, protocol layer, description of commands: COPY_CAL_PAGE.
-    pub fn copy(
+    pub fn copy_page(
         &mut self,
         source: u8,
         source_page: u8,
@@ -30,7 +30,7 @@ impl Pages {
         let source_page = source_page as usize;
         let target_page = target_page as usize;
         if source == target {
-            self.segments[target as usize].copy(source_page, target_page);
+            self.segments[target as usize].copy_page(source_page, target_page);
         } else {
             copy_across(
                 &mut self.segments,

@@ -108,7 +108,7 @@ impl Slave {
     {
         self.transfer.give_up_block();
         self.transfer
-            .copy(source, source_page, target, target_page)?;
+            .copy_page(source, source_page, target, target_page)?;
         Ok(self.done(packet))
     }
 

@@ -4,4 +4,4 @@ use Rattle.xcp_c.proofs.answer.count_of.Goals as goal
 
 pub returns : goal.returns
 returns c =
-    rw (c.saturating_sub.ensures, c.bytes.ensures.value) (sym (block_count c.args.width c.args.bytes.now))
+    rw (c.saturating_sub.ensures, c.size.ensures.value) (sym (block_count c.args.width c.args.bytes.now))

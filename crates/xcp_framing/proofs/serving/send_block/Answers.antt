@@ -6,11 +6,11 @@ use Rattle.xcp_framing.proofs.serving.send_block.Goals as goal
 
 pub send-requires : goal.send-requires
 send-requires g c =
-    omega (arith, c.requires.room, part_room c.cut.new.packet.items [] c.pieces.invariant.part c.in-None.ensures.cut, block_most c.args.width c.args.bytes.now (rw c.bytes-least.ensures.value at c.bytes-least.ensures.least) c.requires.short)
+    omega (arith, c.requires.room, part_room c.cut.new.packet.items [] c.pieces.invariant.part c.in-None.ensures.cut, block_most c.args.width c.args.bytes.now (rw c.size-least.ensures.value at c.size-least.ensures.least) c.requires.short)
 
 pub send-requires-in-Some : goal.send-requires-in-Some
 send-requires-in-Some g c =
-    omega (arith, c.requires.room, part_room c.cut.new.packet.items (block_packets c.args.width c.in-Some.rest.now) c.pieces.invariant.part c.in-Some.ensures.cut, block_most c.args.width c.args.bytes.now (rw c.bytes-least.ensures.value at c.bytes-least.ensures.least) c.requires.short)
+    omega (arith, c.requires.room, part_room c.cut.new.packet.items (block_packets c.args.width c.in-Some.rest.now) c.pieces.invariant.part c.in-Some.ensures.cut, block_most c.args.width c.args.bytes.now (rw c.size-least.ensures.value at c.size-least.ensures.least) c.requires.short)
 
 pub returns-in-None-clause-sends : goal.returns-in-None-clause-sends
 returns-in-None-clause-sends g c = part_last c.send.result _ c.cut.new.packet.items c.pieces.invariant.part c.in-None.ensures.cut c.send.ensures.sends
@@ -19,7 +19,7 @@ pub returns-in-None-clause-most : goal.returns-in-None-clause-most
 returns-in-None-clause-most g c =
     on_ok c.send.result c.send.ensures.counts
     (λ (n : c.send.new.self.sent ≡ c.pieces.sender.sent + 1).
-    omega (arith, part_counted c.cut.new.packet.items [] c.pieces.invariant.part c.in-None.ensures.cut n, block_most c.args.width c.args.bytes.now (rw c.bytes-least.ensures.value at c.bytes-least.ensures.least) c.requires.short))
+    omega (arith, part_counted c.cut.new.packet.items [] c.pieces.invariant.part c.in-None.ensures.cut n, block_most c.args.width c.args.bytes.now (rw c.size-least.ensures.value at c.size-least.ensures.least) c.requires.short))
 
 pub returns-in_err-send-in-Some-clause-sends : goal.returns-in_err-send-in-Some-clause-sends
 returns-in_err-send-in-Some-clause-sends g c =

@@ -28,11 +28,11 @@ returns-clause-member g c =
     let answer = answer_in c.in_ok-told.told c.submit.new.packet in
     let same = c.hand_over.ensures.0 in
     let begins : IsBegun c.args.resident.now begun = elim c.if-len.branch [
-      | then-len w ↦ begun_by w.cut.result c.args.resident.now w.cut.new.self begun w.cut.ensures (c.hand_over.ensures.1 ∙ w.resident-is)
+      | then-len w ↦ begun_by w.cut_chapter.result c.args.resident.now w.cut_chapter.new.self begun w.cut_chapter.ensures (c.hand_over.ensures.1 ∙ w.resident-is)
       | else-len w ↦ inl (c.hand_over.ensures.1 ∙ w.resident-is)
     ] in
     let published : c.if-ends_chapter.resident.locked.writer.publications ≡ done.locked.writer.publications = elim c.if-ends_chapter.branch [
-      | then-ends_chapter w ↦ ap (λ r. r.locked.writer.publications) w.resident-is ∙ kept w.cut-then-ends_chapter.result done w.cut-then-ends_chapter.new.self w.cut-then-ends_chapter.ensures
+      | then-ends_chapter w ↦ ap (λ r. r.locked.writer.publications) w.resident-is ∙ kept w.cut_chapter-then-ends_chapter.result done w.cut_chapter-then-ends_chapter.new.self w.cut_chapter-then-ends_chapter.ensures
       | else-ends_chapter w ↦ ap (λ r. r.locked.writer.publications) w.resident-is
     ] in
     let journal = subst (λ m. done.locked.journal ≡ begun.locked.journal ++ entry m.number request answer ∷ []) same c.in_ok-told.ensures.journal in

@@ -5,4 +5,4 @@ use Rattle.xcp_packet.proofs.train.Train.count.Goals as goal
 
 pub returns-in-Some-clause-count : goal.returns-in-Some-clause-count
 returns-in-Some-clause-count c =
-    rw (← c.self.view_is, c.in-Some.is, c.len.ensures.value, c.bytes.ensures.value) (sym (block_count c.in-Some.width c.self.inside.bytes.items))
+    rw (← c.self.view_is, c.in-Some.is, c.len.ensures.value, c.size.ensures.value) (sym (block_count c.in-Some.width c.self.inside.bytes.items))

@@ -21,16 +21,16 @@ pub returns-then-not-is_due : goal.returns-then-not-is_due
 returns-then-not-is_due g c = λ given was.
     let more : Given = record { calls = c.args._calls; last = c.args.last.now } in
     let none = c.if-not-is_due.ensures {u = tt} in
-    let same = subst (λ (b : Bool). MatchBool b (c.args.self.now.pages ≢ kept_pages c.args.last.now) (c.args.self.now.pages ≡ kept_pages c.args.last.now)) none.0 c.take-changed.ensures.changed in
-    kept_same g.F.Shelf.holds c.args.self.now c.take-changed.new.self _ _ _ given more was c.take-changed.ensures.new c.take-changed.ensures.kept same none.1
+    let same = subst (λ (b : Bool). MatchBool b (c.args.self.now.pages ≢ kept_pages c.args.last.now) (c.args.self.now.pages ≡ kept_pages c.args.last.now)) none.0 c.update-changed.ensures.changed in
+    kept_same g.F.Shelf.holds c.args.self.now c.update-changed.new.self _ _ _ given more was c.update-changed.ensures.new c.update-changed.ensures.kept same none.1
 
 pub invariant_of-self-then-put : goal.invariant_of-self-then-put
 invariant_of-self-then-put g c =
     let fits = subst (λ (l : LayoutValue). AreReferences c.args.self.now.pages l) c.layout.ensures (c.if-not-fit.ensures {u = tt}) in
-    let call : Asked = record { file = file_of c.args.self.now.layout c.take-changed.new.self; put = c.put.result } in
+    let call : Asked = record { file = file_of c.args.self.now.layout c.update-changed.new.self; put = c.put.result } in
     let old = c.args.self.now.shelf.asked in
     record {
-      room = room_kept c.args.self.now.pages c.take-changed.new.self (layout_of c.args.last.now) _ _ fits c.take-changed.ensures.kept c.args.self.now.room c.put.ensures.room;
+      room = room_kept c.args.self.now.pages c.update-changed.new.self (layout_of c.args.last.now) _ _ fits c.update-changed.ensures.kept c.args.self.now.room c.put.ensures.room;
       told = told_put old _ call c.args.self.now.failed c.put.ensures.asked c.if-put.true c.args.self.now.told;
       behind = behind_after old _ call _ c.put.ensures.asked (ap not c.if-put.true);
     }
@@ -38,10 +38,10 @@ invariant_of-self-then-put g c =
 pub invariant_of-self-else-put : goal.invariant_of-self-else-put
 invariant_of-self-else-put g c =
     let fits = subst (λ (l : LayoutValue). AreReferences c.args.self.now.pages l) c.layout.ensures (c.if-not-fit.ensures {u = tt}) in
-    let call : Asked = record { file = file_of c.args.self.now.layout c.take-changed.new.self; put = c.put.result } in
+    let call : Asked = record { file = file_of c.args.self.now.layout c.update-changed.new.self; put = c.put.result } in
     let old = c.args.self.now.shelf.asked in
     record {
-      room = room_kept c.args.self.now.pages c.take-changed.new.self (layout_of c.args.last.now) _ _ fits c.take-changed.ensures.kept c.args.self.now.room c.put.ensures.room;
+      room = room_kept c.args.self.now.pages c.update-changed.new.self (layout_of c.args.last.now) _ _ fits c.update-changed.ensures.kept c.args.self.now.room c.put.ensures.room;
       told = told_failed old _ call c.put.ensures.asked c.if-put.false;
       behind = behind_after old _ call _ c.put.ensures.asked (ap not c.if-put.false);
     }
@@ -49,23 +49,23 @@ invariant_of-self-else-put g c =
 pub returns-then-put : goal.returns-then-put
 returns-then-put g c = λ given was.
     let more : Given = record { calls = c.args._calls; last = c.args.last.now } in
-    let call : Asked = record { file = file_of c.args.self.now.layout c.take-changed.new.self; put = c.put.result } in
+    let call : Asked = record { file = file_of c.args.self.now.layout c.update-changed.new.self; put = c.put.result } in
     let due : (kept_pages c.args.last.now ≢ c.args.self.now.pages) ⊎ (c.args.self.now.standing ≡ Behind) = elim (c.if-not-is_due.ensures {u = tt}) [
       | inl changed ↦
-          let others = subst (λ (b : Bool). MatchBool b (c.args.self.now.pages ≢ kept_pages c.args.last.now) (c.args.self.now.pages ≡ kept_pages c.args.last.now)) changed c.take-changed.ensures.changed in
+          let others = subst (λ (b : Bool). MatchBool b (c.args.self.now.pages ≢ kept_pages c.args.last.now) (c.args.self.now.pages ≡ kept_pages c.args.last.now)) changed c.update-changed.ensures.changed in
           inl (λ e. others (sym e))
       | inr behind ↦ inr behind
     ] in
-    kept_asked g.F.Shelf.holds c.args.self.now _ given more call was refl refl c.take-changed.ensures.new c.take-changed.ensures.kept c.put.ensures.asked refl due (c.put.ensures.put c.if-put.true)
+    kept_asked g.F.Shelf.holds c.args.self.now _ given more call was refl refl c.update-changed.ensures.new c.update-changed.ensures.kept c.put.ensures.asked refl due (c.put.ensures.put c.if-put.true)
 
 pub returns-else-put : goal.returns-else-put
 returns-else-put g c = λ given was.
     let more : Given = record { calls = c.args._calls; last = c.args.last.now } in
-    let call : Asked = record { file = file_of c.args.self.now.layout c.take-changed.new.self; put = c.put.result } in
+    let call : Asked = record { file = file_of c.args.self.now.layout c.update-changed.new.self; put = c.put.result } in
     let due : (kept_pages c.args.last.now ≢ c.args.self.now.pages) ⊎ (c.args.self.now.standing ≡ Behind) = elim (c.if-not-is_due.ensures {u = tt}) [
       | inl changed ↦
-          let others = subst (λ (b : Bool). MatchBool b (c.args.self.now.pages ≢ kept_pages c.args.last.now) (c.args.self.now.pages ≡ kept_pages c.args.last.now)) changed c.take-changed.ensures.changed in
+          let others = subst (λ (b : Bool). MatchBool b (c.args.self.now.pages ≢ kept_pages c.args.last.now) (c.args.self.now.pages ≡ kept_pages c.args.last.now)) changed c.update-changed.ensures.changed in
           inl (λ e. others (sym e))
       | inr behind ↦ inr behind
     ] in
-    kept_asked g.F.Shelf.holds c.args.self.now _ given more call was refl refl c.take-changed.ensures.new c.take-changed.ensures.kept c.put.ensures.asked refl due refl
+    kept_asked g.F.Shelf.holds c.args.self.now _ given more call was refl refl c.update-changed.ensures.new c.update-changed.ensures.kept c.put.ensures.asked refl due refl

@@ -3,7 +3,7 @@ use Rattle.arrayvec.proofs.ArrayVecLemmas.{filter-from_retain}
 use Rattle.xcp_service.specs.Sessions.{without}
 use Rattle.xcp_service.specs.private.Seats.{AreSeats}
 use Rattle.xcp_service.proofs.SessionLemmas.{seats_without}
-use Rattle.xcp_service.proofs.sessions.Sessions.leave.Goals as goal
+use Rattle.xcp_service.proofs.sessions.Sessions.depart.Goals as goal
 
 pub invariant_of-self : goal.invariant_of-self
 invariant_of-self c =

@@ -7,11 +7,11 @@ use Rattle.xcp_slave.specs.StoredPages.{kept_page}
 use Rattle.xcp_flash.specs.References.{kept_pages}
 use Rattle.xcp_flash.proofs.LayoutLemmas.{many}
 use Rattle.xcp_flash.proofs.TakingLemmas.{page_size, same_last, still, taken_more, told_more}
-use Rattle.xcp_flash.proofs.references.take_each.Goals.{then-take, else-take}
-use Rattle.xcp_flash.proofs.references.take_each.Goals as goal
+use Rattle.xcp_flash.proofs.references.update_each.Goals.{then-update, else-update}
+use Rattle.xcp_flash.proofs.references.update_each.Goals as goal
 
-pub take-requires : goal.take-requires
-take-requires c =
+pub update-requires : goal.update-requires
+update-requires c =
     let v = c.args.slave.now in
     let old = c.args.pages.now in
     let i = c.loop-segment.segment in
@@ -38,19 +38,19 @@ loop-segment-preserved c =
     let within : i < length v.transfer.pages.segments = omega (arith, front, counted) in
     let page : c.kept.result.now ≡ get_or new i d = c.kept.ensures.value ∙ sym (get_or-map (kept_page v) v.transfer.pages.segments i no_pages d within) in
     let before : get_or now i d ≡ get_or old i d = still new old now i d (omega (arith, front)) there was.taken in
-    let differs = c.take.ensures.changed in
-    let told : MatchBool c.if-take.changed (take (i + 1) old ≢ take (i + 1) new) (take (i + 1) old ≡ take (i + 1) new) =
-    elim c.if-take.branch [
-      | then-take w ↦
-          let other = subst (λ (b : Bool). MatchBool b (get_or now i d ≢ c.kept.result.now) (get_or now i d ≡ c.kept.result.now)) w.if-take.true differs in
+    let differs = c.update.ensures.changed in
+    let told : MatchBool c.if-update.changed (take (i + 1) old ≢ take (i + 1) new) (take (i + 1) old ≡ take (i + 1) new) =
+    elim c.if-update.branch [
+      | then-update w ↦
+          let other = subst (λ (b : Bool). MatchBool b (get_or now i d ≢ c.kept.result.now) (get_or now i d ≡ c.kept.result.now)) w.if-update.true differs in
           subst (λ (b : Bool). MatchBool b (take (i + 1) old ≢ take (i + 1) new) (take (i + 1) old ≡ take (i + 1) new)) (sym w.changed-is)
           (λ same. other (before ∙ same_last old new i d same ∙ sym page))
-      | else-take w ↦
-          let equal = subst (λ (b : Bool). MatchBool b (get_or now i d ≢ c.kept.result.now) (get_or now i d ≡ c.kept.result.now)) w.if-take.false differs in
+      | else-update w ↦
+          let equal = subst (λ (b : Bool). MatchBool b (get_or now i d ≢ c.kept.result.now) (get_or now i d ≡ c.kept.result.now)) w.if-update.false differs in
           subst (λ (b : Bool). MatchBool b (take (i + 1) old ≢ take (i + 1) new) (take (i + 1) old ≡ take (i + 1) new)) (sym w.changed-is)
           (told_more old new i d c.loop-segment.changed there front (sym before ∙ equal ∙ page) was.told)
     ] in
     record {
-      taken = taken_more new old now i d c.take.new.self front there was.taken (c.take.ensures.new ∙ page);
+      taken = taken_more new old now i d c.update.new.self front there was.taken (c.update.ensures.new ∙ page);
       told = told;
     }

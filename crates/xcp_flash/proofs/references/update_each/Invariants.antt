@@ -1,7 +1,7 @@
 use Rattle.std.proofs.Common.{◌≡◌, ◌++◌, take, drop}
 use Rattle.std.specs.Prelude.{◌≢◌, MatchBool}
 use Rattle.xcp_flash.specs.References.{kept_pages}
-use Rattle.xcp_flash.proofs.references.take_each.Given as goal
+use Rattle.xcp_flash.proofs.references.update_each.Given as goal
 
 -- the pages so far are the slave's, and it is known whether they were
 abbrev pub invariant-loop-segment : goal.invariant-loop-segment

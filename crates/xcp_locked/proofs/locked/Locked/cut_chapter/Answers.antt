@@ -4,7 +4,7 @@ use Rattle.xcp_slave.specs.SlaveValue.{SlaveValue}
 use Rattle.xcp_locked.specs.LockedSlave.{IsReached}
 use Rattle.xcp_locked.proofs.JournalLemmas.{run_first}
 use Rattle.xcp_locked.proofs.ChapterLemmas.{all_cut, few_more, kept_cut, reached_on}
-use Rattle.xcp_locked.proofs.locked.Locked.cut.Goals as goal
+use Rattle.xcp_locked.proofs.locked.Locked.cut_chapter.Goals as goal
 
 pub invariant_of-self-2 : goal.invariant_of-self-2
 invariant_of-self-2 g c =

@@ -1,7 +1,7 @@
 use Rattle.std.proofs.Common.{ap, ◌∙◌, arith}
 use Rattle.xcp_memory.specs.private.PageStore.{pages_in}
 use Rattle.xcp_memory.proofs.PageStoreLemmas.{stored_by, stored_room, stored_copy, with_pages}
-use Rattle.xcp_memory.proofs.page_set.PageSet.copy.Goals as goal
+use Rattle.xcp_memory.proofs.page_set.PageSet.copy_page.Goals as goal
 
 pub overflow_mul-start : goal.overflow_mul-start
 overflow_mul-start c =

@@ -4,7 +4,7 @@ use Rattle.xcp_memory.specs.PageCopy.{copy_refusal, pages_copied}
 use Rattle.xcp_memory.specs.Pages.{IsPages, SegmentPages, PagesValue}
 use Rattle.xcp_memory.proofs.PageCopyLemmas.{is_pages-copied}
 use Rattle.xcp_memory.proofs.PageLemmas.{refilled}
-use Rattle.xcp_memory.proofs.pages.Pages.copy.Goals as goal
+use Rattle.xcp_memory.proofs.pages.Pages.copy_page.Goals as goal
 
 pub invariant_of-self-else-source-target : goal.invariant_of-self-else-source-target
 invariant_of-self-else-source-target c =
